@@ -1,10 +1,10 @@
 -- A journal that has begun with a good plan isn't left unfinished because a step can't be taken.
 use Rattle.std.proofs.Common.{◌≡◌, ℕ, List, [], ◌∷◌, ◌++◌, sym, subst, ◌∙◌, inl, inr}
 use Rattle.apply.specs.Planned.{IsOfPlan}
-use Rattle.apply.specs.Progress.{IsPartWay, IsUpTo}
+use Rattle.apply.specs.Progress.{IsPartTaken, IsUpTo}
 use Rattle.journal.specs.History.{History, Leads, Shows, slots_left}
 use Rattle.journal.specs.Ledger.{history_of}
-use Rattle.journal.specs.Payload.{Recorded}
+use Rattle.journal.specs.Payload.{RecordedStep}
 use Rattle.apply.specs.Run.{HasBegun}
 use Rattle.status_text.specs.Slot.{FileSlot}
 use Rattle.status.specs.Stored.{read_stored}
@@ -12,7 +12,7 @@ use Rattle.applied_end.proofs.EndLemmas.{good_plan_is_never_refused}
 use Rattle.applied_end.specs.End.{GoodPlanIsFinished}
 use Rattle.applied_end.specs.Run.{HasBegunWith}
 
-leads_joined : (arch : List ℕ) (first middle last : List FileSlot) (steps later : List Recorded) → Leads arch first steps middle
+leads_joined : (arch : List ℕ) (first middle last : List FileSlot) (steps later : List RecordedStep) → Leads arch first steps middle
     → Leads arch middle later last → Leads arch first (steps ++ later) last
 leads_joined arch first middle last [] later leads behind = subst (λ (from : List FileSlot). Leads arch from later last) leads behind
 leads_joined arch first middle last (recorded ∷ steps) later leads behind =
@@ -22,9 +22,9 @@ leads_joined arch first middle last (recorded ∷ steps) later leads behind =
 abbrev pub ShowsOneHistory : Type 0
 ShowsOneHistory = (file : List ℕ) (h k : History) → Shows file h → Shows file k → h.arch ≡ k.arch → h ≡ k
 
-module _ (arch start : List ℕ) (plan : List Recorded) where
+module _ (arch start : List ℕ) (plan : List RecordedStep) where
   -- a history that goes on from one that has begun with the plan to first steps of it has begun with it
-  part_begun : (old new : History) → HasBegunWith arch start plan old → IsPartWay plan old new → HasBegunWith arch start plan new
+  part_begun : (old new : History) → HasBegunWith arch start plan old → IsPartTaken plan old new → HasBegunWith arch start plan new
   part_begun old new has part =
       let behind : Leads arch old.slots part.taken new.slots =
       subst (λ (a : List ℕ). Leads a old.slots part.taken new.slots) has.for_it part.goes_on.leads in
@@ -33,7 +33,7 @@ module _ (arch start : List ℕ) (plan : List Recorded) where
         of_plan = record { start_is = part.goes_on.start ∙ has.of_plan.start_is; steps_are = part.within };
         first = has.first;
         begins = has.begins;
-        leads = subst (λ (steps : List Recorded). Leads arch has.first steps new.slots) (sym part.goes_on.steps)
+        leads = subst (λ (steps : List RecordedStep). Leads arch has.first steps new.slots) (sym part.goes_on.steps)
             (leads_joined arch has.first old.slots new.slots old.steps part.taken has.leads behind);
       }
 

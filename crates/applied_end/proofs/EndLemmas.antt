@@ -10,7 +10,7 @@ use Rattle.inputs.proofs.DistinctLemmas.{distinct_start, status-read}
 use Rattle.inputs.proofs.MeaningLemmas.{ok-same}
 use Rattle.journal.specs.History.{Leads}
 use Rattle.journal.specs.Ledger.{history_of}
-use Rattle.journal.specs.Payload.{Recorded}
+use Rattle.journal.specs.Payload.{RecordedStep}
 use Rattle.rules.specs.Available.{Index, Inputs}
 use Rattle.rules.specs.Database.{Record}
 use Rattle.rules.specs.Run.{Run}
@@ -44,12 +44,12 @@ all_handed_in texts indices files u (taken ∷ steps) (text ∷ given) has named
     (fetched_is_handed_in texts indices files u taken text has named are.0, all_handed_in texts indices files u steps given has named are.1)
 
 -- from what the journal reads of the start the recorded steps lead to the records at the end of the run
-record IsTakenFrom (texts : Texts) (records : List Recorded) (first : List FileSlot) (finish : List Record) : Type 0 where
+record IsTakenFrom (texts : Texts) (records : List RecordedStep) (first : List FileSlot) (finish : List Record) : Type 0 where
   last : List FileSlot
   leads : Leads texts.arch first records last
   ends : slot_records last ≡ finish
 
-taken_from : (texts : Texts) (plan : Found) (start : List ℕ) (records : List Recorded) (is : IsPlanned texts plan start records) (first : List FileSlot)
+taken_from : (texts : Texts) (plan : Found) (start : List ℕ) (records : List RecordedStep) (is : IsPlanned texts plan start records) (first : List FileSlot)
     → read_stored texts.arch start ≡ Ok first → IsTakenFrom texts records first is.good.holds.finish
 taken_from texts plan start records is first begins =
     let denoted = is.good.read_as.denoted in
@@ -67,7 +67,7 @@ taken_from texts plan start records is first begins =
     subst (λ (db : List Record). Run is.universe db is.steps is.good.holds.finish) begun is.good.holds.run in
     let handed = all_handed_in texts denoted.indices is.files is.universe is.steps is.stanzas denoted.read.listed.indexed is.named is.fetched in
     let (last, leads, ends) = run_is_taken texts.arch is.universe is.good.begin is.good.holds.finish is.steps is.stanzas first built handed run in
-    record { last = last; leads = subst (λ (rs : List Recorded). Leads texts.arch first rs last) (sym is.records_are) leads; ends = ends }
+    record { last = last; leads = subst (λ (rs : List RecordedStep). Leads texts.arch first rs last) (sym is.records_are) leads; ends = ends }
 
 pub output_is_judged_end : OutputIsJudgedEnd
 output_is_judged_end texts plan start records text is ends =

@@ -30,13 +30,13 @@ use Rattle.rules.specs.declared.step.Step.{Step}
 use Rattle.rules.specs.declared.step.Step.TheVariants as step
 use Rattle.stanza.specs.Stanza.{StanzaText, items_of}
 use Rattle.stanza.specs.Streamed.{as_read}
-use Rattle.stanza.specs.declared.error.ReadError.{ReadError}
+use Rattle.stanza.specs.declared.error.ReaderError.{ReaderError}
 use Rattle.stanza.specs.declared.error.StanzaError.{StanzaError}
 use Rattle.stanza.specs.declared.form.Form.TheVariants.{Plain}
 use Rattle.stanza.proofs.StreamLemmas.{text-read, text-refused}
 use Rattle.status.specs.Applicable.{handed_in}
 use Rattle.universe_parts.specs.Parts.{numbered}
-use Rattle.unpack_texts.specs.Texts.{IsTextFor, IsTextOf, ended}
+use Rattle.unpack_texts.specs.Texts.{IsTextFor, IsTextOf, with_newline}
 use Rattle.applied_end.proofs.NewlineLemmas.{closed_alone, ended_closed, raw_is_one}
 use Rattle.applied_end.specs.Step.{IsStanzaOf}
 use Rattle.applied_end.specs.Text.{EndedReadsSame, FetchedIsHandedIn, IsHandedIn}
@@ -48,7 +48,7 @@ ended_reads_same arch text stanza within =
 -- An index that is read isn't too long
 
 abbrev Items : Type 0
-Items = List (Result StanzaText ReadError)
+Items = List (Result StanzaText ReaderError)
 
 stanzas_ok : (stanzas : ReadStanzas) (later : Result ReadStanzas IndexFault) (read : ReadStanzas) → with_stanzas stanzas later ≡ Ok read
     → (rest : ReadStanzas) × (later ≡ Ok rest)
@@ -69,7 +69,7 @@ entry_ok count (Ok entry) later read is = by (is_too_many count entry) is
         (count + length (stanzas_of entry).listed, rest, same)
 
 -- a reading that ends in a refusal is refused
-refused_stream : (arch : List ℕ) (place : IndexPlace) (stanzas : List StanzaText) (error : ReadError) (count : ℕ) (read : ReadStanzas)
+refused_stream : (arch : List ℕ) (place : IndexPlace) (stanzas : List StanzaText) (error : ReaderError) (count : ℕ) (read : ReadStanzas)
     → stanzas_read arch place (map Ok stanzas ++ Err error ∷ []) count ≡ Ok read → ⊥
 refused_stream arch place [] error count read is = absurd (let e = is in cc)
 refused_stream arch place (stanza ∷ stanzas) error count read is =
@@ -93,10 +93,10 @@ release_ok : (release : Release) (stanzas : Result ReadStanzas IndexFault) (read
 release_ok release (Err refused) read is = absurd (let e = is in cc)
 release_ok release (Ok kept) read is = (kept, refl)
 
-index_short : (arch : List ℕ) (found : ℕ → List ℕ → Found) (number before : ℕ) (source : SourceText) (read : ReadIndex) (text : List ℕ)
-    → index_of arch found number before source ≡ Ok read → found number source.file ≡ Some text → length text ≤ TEXT_BYTES
-index_short arch found number before source read text is there =
-    let (bytes, same, reading) = found-ok (index_in arch number before source) (found number source.file) read is in
+index_short : (arch : List ℕ) (text_of : ℕ → List ℕ → Found) (number before : ℕ) (source : SourceText) (read : ReadIndex) (text : List ℕ)
+    → index_of arch text_of number before source ≡ Ok read → text_of number source.file ≡ Some text → length text ≤ TEXT_BYTES
+index_short arch text_of number before source read text is there =
+    let (bytes, same, reading) = found-ok (index_in arch number before source) (text_of number source.file) read is in
     let of_release = read-ok fault.Index (with_release source.release (read_stream arch number before bytes)) read reading in
     let (kept, stream) = release_ok source.release (read_stream arch number before bytes) read of_release in
     subst (λ (t : List ℕ). length t ≤ TEXT_BYTES) (same_Some bytes text (sym same ∙ there)) (stream_short arch number before bytes kept stream)
@@ -120,34 +120,34 @@ goes_on number (Ok one) later indices is =
     let (rest, behind) = indices_ok (one.index ∷ []) (later (length one.index.listed)) indices is in
     record { one = one; is = refl; rest = rest; behind = behind }
 
-indices_short : (arch : List ℕ) (found : ℕ → List ℕ → Found) (number before place : ℕ) (sources : List SourceText) (indices : List Index) (file text : List ℕ)
-    → indices_from arch found number before sources ≡ Ok indices → slice_get (files_of sources) place ≡ Some file
-    → found (number + place) file ≡ Some text → length text ≤ TEXT_BYTES
-indices_short arch found number before place [] indices file text is there opens = absurd (let e = there in cc)
-indices_short arch found number before zero (source ∷ sources) indices file text is there opens =
-    let on = goes_on number (index_of arch found number before source) (λ count. indices_from arch found (number + 1) (before + count) sources) indices is in
+indices_short : (arch : List ℕ) (text_of : ℕ → List ℕ → Found) (number before place : ℕ) (sources : List SourceText) (indices : List Index) (file text : List ℕ)
+    → indices_from arch text_of number before sources ≡ Ok indices → slice_get (files_of sources) place ≡ Some file
+    → text_of (number + place) file ≡ Some text → length text ≤ TEXT_BYTES
+indices_short arch text_of number before place [] indices file text is there opens = absurd (let e = there in cc)
+indices_short arch text_of number before zero (source ∷ sources) indices file text is there opens =
+    let on = goes_on number (index_of arch text_of number before source) (λ count. indices_from arch text_of (number + 1) (before + count) sources) indices is in
     let here : number + 0 ≡ number = omega arith in
-    index_short arch found number before source on.one text on.is
-    (ap (found number) (same_Some source.file file there) ∙ ap (λ (n : ℕ). found n file) (sym here) ∙ opens)
-indices_short arch found number before (suc place) (source ∷ sources) indices file text is there opens =
-    let on = goes_on number (index_of arch found number before source) (λ count. indices_from arch found (number + 1) (before + count) sources) indices is in
+    index_short arch text_of number before source on.one text on.is
+    (ap (text_of number) (same_Some source.file file there) ∙ ap (λ (n : ℕ). text_of n file) (sym here) ∙ opens)
+indices_short arch text_of number before (suc place) (source ∷ sources) indices file text is there opens =
+    let on = goes_on number (index_of arch text_of number before source) (λ count. indices_from arch text_of (number + 1) (before + count) sources) indices is in
     let next : (number + 1) + place ≡ number + suc place = omega arith in
-    indices_short arch found (number + 1) (before + length on.one.index.listed) place sources on.rest file text on.behind there
-    (ap (λ (n : ℕ). found n file) next ∙ opens)
+    indices_short arch text_of (number + 1) (before + length on.one.index.listed) place sources on.rest file text on.behind there
+    (ap (λ (n : ℕ). text_of n file) next ∙ opens)
 
-opened_short : (arch : List ℕ) (found : ℕ → List ℕ → Found) (sources : List SourceText) (indices : List Index) (number : ℕ) (text : List ℕ)
-    → read_indices arch found sources ≡ Ok indices → option_and_then (found number) (numbered number (files_of sources)) ≡ Some text
+opened_short : (arch : List ℕ) (text_of : ℕ → List ℕ → Found) (sources : List SourceText) (indices : List Index) (number : ℕ) (text : List ℕ)
+    → read_indices arch text_of sources ≡ Ok indices → option_and_then (text_of number) (numbered number (files_of sources)) ≡ Some text
     → length text ≤ TEXT_BYTES
 unfolding read_indices
-opened_short arch found sources indices zero text is opens = absurd (let e = opens in cc)
-opened_short arch found sources indices (suc place) text is opens = by (slice_get (files_of sources) place) refl opens
+opened_short arch text_of sources indices zero text is opens = absurd (let e = opens in cc)
+opened_short arch text_of sources indices (suc place) text is opens = by (slice_get (files_of sources) place) refl opens
   where
-    by : (file : Option (List ℕ)) → slice_get (files_of sources) place ≡ file → option_and_then (found (suc place)) file ≡ Some text
+    by : (file : Option (List ℕ)) → slice_get (files_of sources) place ≡ file → option_and_then (text_of (suc place)) file ≡ Some text
         → length text ≤ TEXT_BYTES
     by None there opens = absurd (let e = opens in cc)
     by (Some file) there opens =
         let next : 1 + place ≡ suc place = omega arith in
-        indices_short arch found 1 0 place sources indices file text is there (ap (λ (n : ℕ). found n file) next ∙ opens)
+        indices_short arch text_of 1 0 place sources indices file text is there (ap (λ (n : ℕ). text_of n file) next ∙ opens)
 
 -- What is fetched
 
@@ -168,35 +168,35 @@ read_within_items text before stanza later short is =
     let Within : Items → Type 0 = λ items. Contains items (Ok stanza) in
     let there = subst Within (sym is ∙ text-read Plain text TEXT_BYTES short) (stanza_within before stanza later) in
     let (item, within, same) = Contains-map as_read (items_of Plain text) (Ok stanza) there in
-    subst (λ (found : Result StanzaText StanzaError). Contains (items_of Plain text) found) (item_is item stanza same) within
+    subst (λ (element : Result StanzaText StanzaError). Contains (items_of Plain text) element) (item_is item stanza same) within
 
 -- the text of the stanza of a package hands in a stanza of it
-text_handed_in : (arch : List ℕ) (found : ℕ → List ℕ → Found) (sources : List SourceText) (indices : List Index) (listed : IndexPackage) (text : List ℕ)
-    → read_indices arch found sources ≡ Ok indices → IsTextOf arch found (files_of sources) listed text → IsStanzaOf (Some listed) (alone arch text)
-text_handed_in arch found sources indices listed text read is =
-    let short = opened_short arch found sources indices listed.place.index is.bytes read is.there in
+text_handed_in : (arch : List ℕ) (text_of : ℕ → List ℕ → Found) (sources : List SourceText) (indices : List Index) (listed : IndexPackage) (text : List ℕ)
+    → read_indices arch text_of sources ≡ Ok indices → IsTextOf arch text_of (files_of sources) listed text → IsStanzaOf (Some listed) (alone arch text)
+text_handed_in arch text_of sources indices listed text read is =
+    let short = opened_short arch text_of sources indices listed.place.index is.bytes read is.there in
     let fetched = is.fetched.fetched in
     let within = read_within_items is.bytes fetched.there.before fetched.stanza fetched.there.later short fetched.there.is in
     let same : alone arch text ≡ Some fetched.same.indexed =
-    ap (alone arch) is.fetched.is ∙ ap (λ (t : List ℕ). alone arch (ended t)) (sym fetched.raw)
+    ap (alone arch) is.fetched.is ∙ ap (λ (t : List ℕ). alone arch (with_newline t)) (sym fetched.raw)
     ∙ ended_reads_same arch is.bytes fetched.stanza within ∙ ap (alone arch) fetched.raw ∙ fetched.same.read in
     let Of : Option IndexStanza → Type 0 = λ o. IsStanzaOf (Some listed) o in
     subst Of (sym same) (fetched.same.pkg, fetched.same.essential)
 
-unpack_handed_in : (arch : List ℕ) (found : ℕ → List ℕ → Found) (sources : List SourceText) (indices : List Index) (listed : Option IndexPackage) (given : Option (List ℕ))
-    → read_indices arch found sources ≡ Ok indices
-    → MatchOption listed (given ≡ None) (λ one. MatchOption given ⊥ (IsTextOf arch found (files_of sources) one)) → IsStanzaOf listed (handed_in arch given)
-unpack_handed_in arch found sources indices None given read is = ap (handed_in arch) is
-unpack_handed_in arch found sources indices (Some listed) None read is = absurd is
-unpack_handed_in arch found sources indices (Some listed) (Some text) read is = text_handed_in arch found sources indices listed text read is
+unpack_handed_in : (arch : List ℕ) (text_of : ℕ → List ℕ → Found) (sources : List SourceText) (indices : List Index) (listed : Option IndexPackage) (given : Option (List ℕ))
+    → read_indices arch text_of sources ≡ Ok indices
+    → MatchOption listed (given ≡ None) (λ one. MatchOption given ⊥ (IsTextOf arch text_of (files_of sources) one)) → IsStanzaOf listed (handed_in arch given)
+unpack_handed_in arch text_of sources indices None given read is = ap (handed_in arch) is
+unpack_handed_in arch text_of sources indices (Some listed) None read is = absurd is
+unpack_handed_in arch text_of sources indices (Some listed) (Some text) read is = text_handed_in arch text_of sources indices listed text read is
 
-step_handed_in : (arch : List ℕ) (found : ℕ → List ℕ → Found) (sources : List SourceText) (indices : List Index) (u : Universe) (taken : Step) (given : Option (List ℕ))
-    → read_indices arch found sources ≡ Ok indices → IsTextFor arch found (files_of sources) u taken given → IsHandedIn arch u taken given
-step_handed_in arch found sources indices u (step.Unpack name version) given read is = unpack_handed_in arch found sources indices (listed_of u name version) given read is
-step_handed_in arch found sources indices u (step.Deconfigure name) given read is = refl
-step_handed_in arch found sources indices u (step.Configure names) given read is = refl
-step_handed_in arch found sources indices u (step.Remove name) given read is = refl
-step_handed_in arch found sources indices u (step.Purge name) given read is = refl
+step_handed_in : (arch : List ℕ) (text_of : ℕ → List ℕ → Found) (sources : List SourceText) (indices : List Index) (u : Universe) (taken : Step) (given : Option (List ℕ))
+    → read_indices arch text_of sources ≡ Ok indices → IsTextFor arch text_of (files_of sources) u taken given → IsHandedIn arch u taken given
+step_handed_in arch text_of sources indices u (step.Unpack name version) given read is = unpack_handed_in arch text_of sources indices (listed_of u name version) given read is
+step_handed_in arch text_of sources indices u (step.Deconfigure name) given read is = refl
+step_handed_in arch text_of sources indices u (step.Configure names) given read is = refl
+step_handed_in arch text_of sources indices u (step.Remove name) given read is = refl
+step_handed_in arch text_of sources indices u (step.Purge name) given read is = refl
 
 pub fetched_is_handed_in : FetchedIsHandedIn
 fetched_is_handed_in texts indices files u taken given has named is =

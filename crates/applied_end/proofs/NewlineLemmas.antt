@@ -134,7 +134,7 @@ closed_stanza text one =
     by (first ∷ []) items same =
         let is : read_stanza first ≡ record { fields = map field_of st.fields; bytes = Some (closed st.raw) } = let e = same in cc in
         let raw : first.raw ≡ closed st.raw = raw_same first.raw (closed st.raw) (ap (λ (s : Stanza). s.bytes) is) in
-        let itself = items_of-IsAlone Plain (closed st.raw) first (subst (λ found. Contains found (Ok first)) (sym items) (Contains-head (Ok first) [])) in
+        let itself = items_of-IsAlone Plain (closed st.raw) first (subst (λ all_items. Contains all_items (Ok first)) (sym items) (Contains-head (Ok first) [])) in
         let alone : IsOneStanza (closed st.raw) = subst (λ (t : List ℕ). IsOneStanza t) raw itself.alone in
         let whole : stanza_of Plain 1 (lines_of (closed st.raw)) ≡ first = one_same (stanza_of Plain 1 (lines_of (closed st.raw))) first (sym alone ∙ items) in
         (alone, ap (λ (s : StanzaText). map field_of s.fields) whole ∙ ap (λ (s : Stanza). s.fields) is)

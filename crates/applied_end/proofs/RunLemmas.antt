@@ -3,7 +3,7 @@ use Rattle.std.proofs.Common.{◌≡◌, ℕ, ◌≤◌, Bool, true, false, List
 use Rattle.std.specs.Prelude.{if◌then◌else◌}
 use Rattle.journal.specs.Adding.{recorded_of}
 use Rattle.journal.specs.History.{Leads, slots_left}
-use Rattle.journal.specs.Payload.{Recorded}
+use Rattle.journal.specs.Payload.{RecordedStep}
 use Rattle.rules.specs.Database.{Record}
 use Rattle.rules.specs.Run.{Run}
 use Rattle.rules.specs.declared.limits.TheConstants.{TEXT_BYTES}
@@ -45,20 +45,20 @@ leads_keeps_sound arch slots last (recorded ∷ later) leads sound =
     (step_keeps_sound arch recorded.stanza recorded.step slots leads.0 sound)
 
 -- what leads from behind the first steps
-pub leads_behind : (arch : List ℕ) (slots middle last : List FileSlot) (steps later : List Recorded) → Leads arch slots (steps ++ later) last
+pub leads_behind : (arch : List ℕ) (slots middle last : List FileSlot) (steps later : List RecordedStep) → Leads arch slots (steps ++ later) last
     → Leads arch slots steps middle → Leads arch middle later last
 leads_behind arch slots middle last [] later leads first = subst (λ (from : List FileSlot). Leads arch from later last) (sym first) leads
 leads_behind arch slots middle last (recorded ∷ steps) later leads first =
     leads_behind arch (slots_left arch recorded slots) middle last steps later leads.1 first.1
 
 -- where a plan can be taken to its end, no next step is refused
-pub never_refused : (arch start : List ℕ) (plan : List Recorded) (first last : List FileSlot) → read_stored arch start ≡ Ok first
+pub never_refused : (arch start : List ℕ) (plan : List RecordedStep) (first last : List FileSlot) → read_stored arch start ≡ Ok first
     → Leads arch first plan last → IsNeverRefused arch start plan
 never_refused arch start plan first last begins leads h next has is_next =
     let same : has.first ≡ first = stored_same has.first first (sym has.begins ∙ begins) in
     let whole : Leads arch has.first (h.steps ++ next ∷ is_next.0) last =
     subst (λ (slots : List FileSlot). Leads arch slots (h.steps ++ next ∷ is_next.0) last) (sym same)
-    (subst (λ (steps : List Recorded). Leads arch first steps last) is_next.1 leads) in
+    (subst (λ (steps : List RecordedStep). Leads arch first steps last) is_next.1 leads) in
     (leads_behind arch has.first h.slots last h.steps (next ∷ is_next.0) whole has.leads).0
   where
     stored_same : (a b : List FileSlot) → ◌≡◌ {A = Result (List FileSlot) StatusFault} (Ok a) (Ok b) → a ≡ b
@@ -75,8 +75,8 @@ status_fits arch text slots is = by (nat_lt TEXT_BYTES (length text)) refl is
 
 pub start_is_read : StartIsRead
 start_is_read arch text slots first read is =
-    let (was, found, same) = stored_read (read_status arch (slots_text slots)) first is in
-    let again = read_reads_again arch text slots read (status_fits arch (slots_text slots) was found) in
+    let (was, is_read, same) = stored_read (read_status arch (slots_text slots)) first is in
+    let again = read_reads_again arch text slots read (status_fits arch (slots_text slots) was is_read) in
     stored_same first (map as_stored slots) (sym is ∙ again)
   where
     stored_same : (a b : List FileSlot) → ◌≡◌ {A = Result (List FileSlot) StatusFault} (Ok a) (Ok b) → a ≡ b

@@ -82,7 +82,7 @@ sound_kept arch slots each stored = subst (AreKept arch) stored (all_stored arch
 names_stored : (slots : List FileSlot) → names_of (map as_stored slots) ≡ names_of slots
 names_stored [] = refl
 names_stored (Foreign stanza ∷ slots) = names_stored slots
-names_stored (Recorded entry ∷ slots) = ap (λ names. entry.found.name ∷ names) (names_stored slots)
+names_stored (Recorded entry ∷ slots) = ap (λ names. entry.status.name ∷ names) (names_stored slots)
 
 -- what is stored of what was read
 pub stored_read : (read : Result (List FileSlot) StatusFault) (slots : List FileSlot) → stored_of read ≡ Ok slots
@@ -117,7 +117,7 @@ read_reads_again arch text slots read =
 
 -- of a slot whose record passes the first test the record passes the second
 abbrev Passes : (Record → Bool) → (Record → Bool) → FileSlot → Type 0
-Passes test passes (Recorded entry) = test entry.found ≡ true → passes entry.found ≡ true
+Passes test passes (Recorded entry) = test entry.status ≡ true → passes entry.status ≡ true
 Passes test passes (Foreign stanza) = ⊤
 
 none_pass : (passes : Record → Bool) (name : List ℕ) (slots : List FileSlot) → is_in name (names_of slots) ≡ false
@@ -125,8 +125,8 @@ none_pass : (passes : Record → Bool) (name : List ℕ) (slots : List FileSlot)
 none_pass passes name [] none = tt
 none_pass passes name (Foreign stanza ∷ slots) none = (tt, none_pass passes name slots none)
 none_pass passes name (Recorded entry ∷ slots) none = (
-  λ named. absurd (true≢false (sym named ∙ or-false-left (bytes_eq entry.found.name name) (is_in name (names_of slots)) none)),
-  none_pass passes name slots (or-false-right (bytes_eq entry.found.name name) (is_in name (names_of slots)) none),
+  λ named. absurd (true≢false (sym named ∙ or-false-left (bytes_eq entry.status.name name) (is_in name (names_of slots)) none)),
+  none_pass passes name slots (or-false-right (bytes_eq entry.status.name name) (is_in name (names_of slots)) none),
 )
 
 -- of distinct names the record of the name passes where one does
@@ -135,35 +135,35 @@ named_pass : (passes : Record → Bool) (name : List ℕ) (slots : List FileSlot
 named_pass passes name [] distinct has = tt
 named_pass passes name (Foreign stanza ∷ slots) distinct has = (tt, named_pass passes name slots distinct has)
 named_pass passes name (Recorded entry ∷ slots) distinct has =
-    by (bytes_eq entry.found.name name) refl has (named_pass passes name slots distinct.1)
+    by (bytes_eq entry.status.name name) refl has (named_pass passes name slots distinct.1)
   where
     first : (a b : Bool) → (a || b) ≡ true → b ≡ false → a ≡ true
     first true b is none = refl
     first false b is none = absurd (true≢false (sym is ∙ none))
 
-    by : (b : Bool) → bytes_eq entry.found.name name ≡ b → ((b && passes entry.found) || has_record passes name (slot_records slots)) ≡ true
+    by : (b : Bool) → bytes_eq entry.status.name name ≡ b → ((b && passes entry.status) || has_record passes name (slot_records slots)) ≡ true
         → (has_record passes name (slot_records slots) ≡ true → AllByRecursion (Passes (is_named name) passes) slots)
-        → (bytes_eq entry.found.name name ≡ true → passes entry.found ≡ true) × AllByRecursion (Passes (is_named name) passes) slots
+        → (bytes_eq entry.status.name name ≡ true → passes entry.status ≡ true) × AllByRecursion (Passes (is_named name) passes) slots
     by true is has later =
         let none : is_in name (names_of slots) ≡ false =
-        subst (λ n. is_in n (names_of slots) ≡ false) (bytes_eq-true entry.found.name name is) distinct.0 in (
-          λ named. first (passes entry.found) (has_record passes name (slot_records slots)) has (unready passes name slots none),
+        subst (λ n. is_in n (names_of slots) ≡ false) (bytes_eq-true entry.status.name name is) distinct.0 in (
+          λ named. first (passes entry.status) (has_record passes name (slot_records slots)) has (unready passes name slots none),
           none_pass passes name slots none,
         )
     by false is has later = (λ named. absurd (true≢false (sym named ∙ is)), later has)
 
 both_pass : (first second passes : Record → Bool) (slots : List FileSlot) → AllByRecursion (Passes first passes) slots
-    → AllByRecursion (Passes second passes) slots → AllByRecursion (Passes (λ found. first found || second found) passes) slots
+    → AllByRecursion (Passes second passes) slots → AllByRecursion (Passes (λ entry. first entry || second entry) passes) slots
 both_pass first second passes [] one other = tt
 both_pass first second passes (Foreign stanza ∷ slots) one other = (tt, both_pass first second passes slots one.1 other.1)
 both_pass first second passes (Recorded entry ∷ slots) one other =
-    (by (first entry.found) (second entry.found) one.0 other.0, both_pass first second passes slots one.1 other.1)
+    (by (first entry.status) (second entry.status) one.0 other.0, both_pass first second passes slots one.1 other.1)
   where
-    by : (a b : Bool) → (a ≡ true → passes entry.found ≡ true) → (b ≡ true → passes entry.found ≡ true) → (a || b) ≡ true → passes entry.found ≡ true
+    by : (a b : Bool) → (a ≡ true → passes entry.status ≡ true) → (b ≡ true → passes entry.status ≡ true) → (a || b) ≡ true → passes entry.status ≡ true
     by true b one other is = one refl
     by false b one other is = other is
 
-nothing_passes : (passes : Record → Bool) (slots : List FileSlot) → AllByRecursion (Passes (λ found. false) passes) slots
+nothing_passes : (passes : Record → Bool) (slots : List FileSlot) → AllByRecursion (Passes (λ entry. false) passes) slots
 nothing_passes passes [] = tt
 nothing_passes passes (Foreign stanza ∷ slots) = (tt, nothing_passes passes slots)
 nothing_passes passes (Recorded entry ∷ slots) = (λ is. absurd (true≢false (sym is)), nothing_passes passes slots)
@@ -192,7 +192,7 @@ one_passes passes name slots distinct none = named_pass passes name slots distin
 
 -- the entry of a slot whose record passes is kept once it is changed
 abbrev IsKeptChanged : List ℕ → (Record → Bool) → (FileRecord → FileRecord) → FileSlot → Type 0
-IsKeptChanged arch test change (Recorded entry) = test entry.found ≡ true → IsKept arch (Recorded (written (change entry)))
+IsKeptChanged arch test change (Recorded entry) = test entry.status ≡ true → IsKept arch (Recorded (written (change entry)))
 IsKeptChanged arch test change (Foreign stanza) = ⊤
 
 changed_kept : (arch : List ℕ) (test : Record → Bool) (change : FileRecord → FileRecord) (slots : List FileSlot) → AreKept arch slots
@@ -201,7 +201,7 @@ changed_kept arch test change [] kept each = tt
 changed_kept arch test change (Foreign stanza ∷ slots) kept each =
     (still_kept arch (Foreign stanza) kept.0, changed_kept arch test change slots kept.1 each.1)
 changed_kept arch test change (Recorded entry ∷ slots) kept each =
-    (by (test entry.found) each.0, changed_kept arch test change slots kept.1 each.1)
+    (by (test entry.status) each.0, changed_kept arch test change slots kept.1 each.1)
   where
     by : (b : Bool) → (b ≡ true → IsKept arch (Recorded (written (change entry)))) → IsKept arch (as_stored (Recorded (cond b (change entry) entry)))
     by true then = then refl
@@ -226,7 +226,7 @@ over_kept arch indexed (Foreign stanza ∷ slots) can kept = (tt, over_kept arch
 over_kept arch indexed (Recorded entry ∷ slots) can kept = (
   λ named. text_kept arch (stanza_text (unpacked_entry indexed entry).stanza) (Recorded (written (unpacked_entry indexed entry)))
       (unpacked-text arch (stanza_text (unpacked_entry indexed entry).stanza) indexed (Some entry) can
-      (λ other same. subst (λ (e : FileRecord). (is_named indexed.listed.pkg.name e.found ≡ true) × IsGood arch e) (same_Some entry other same) (named, kept.0.0)) refl),
+      (λ other same. subst (λ (e : FileRecord). (is_named indexed.listed.pkg.name e.status ≡ true) × IsGood arch e) (same_Some entry other same) (named, kept.0.0)) refl),
   over_kept arch indexed slots can kept.1,
 )
 

@@ -37,7 +37,7 @@ use Rattle.applied_end.specs.Step.{AllowedIsApplicable, IsStanzaOf, RecordsAreLe
 pub stored_records : StoringKeepsRecords
 stored_records [] = refl
 stored_records (Foreign stanza ∷ slots) = stored_records slots
-stored_records (Recorded entry ∷ slots) = ap (λ later. entry.found ∷ later) (stored_records slots)
+stored_records (Recorded entry ∷ slots) = ap (λ later. entry.status ∷ later) (stored_records slots)
 
 -- an unpacking takes the package of a stanza, and whether it is essential
 unpack_alike : (listed other : IndexPackage) (db : List Record) → listed.pkg ≡ other.pkg → listed.is_essential ≡ other.is_essential
@@ -77,11 +77,11 @@ both true c is = (refl, is)
 both false c is = absurd (let e : false ≡ true = is in cc)
 
 -- a record of the name that has the property passes the test
-record_passes : (P : Record → Type 0) (test : Record → Bool) (name : List ℕ) (db : List Record) → ((found : Record) → P found → test found ≡ true)
+record_passes : (P : Record → Type 0) (test : Record → Bool) (name : List ℕ) (db : List Record) → ((entry : Record) → P entry → test entry ≡ true)
     → HasRecord P name db → has_record test name db ≡ true
-record_passes P test name db passes has = Any-elim (λ (found : Record). (found.name ≡ name) × P found) db (has_record test name db ≡ true)
-    (λ found within is. list_any-from_contains (λ (r : Record). is_named name r && test r) db found within
-    (both_true (is_named name found) (test found) (bytes_eq-same found.name name is.0) (passes found is.1))) has
+record_passes P test name db passes has = Any-elim (λ (entry : Record). (entry.name ≡ name) × P entry) db (has_record test name db ≡ true)
+    (λ entry within is. list_any-from_contains (λ (r : Record). is_named name r && test r) db entry within
+    (both_true (is_named name entry) (test entry) (bytes_eq-same entry.name name is.0) (passes entry is.1))) has
 
 -- where each name has such a record, none is unready
 all_ready : (test : Record → Bool) (names : List (List ℕ)) (db : List Record) → All (λ name. has_record test name db ≡ true) names
@@ -98,8 +98,8 @@ one_ready test name db ready = rw ready refl
 listed_is : (start : List Record) (u : Universe) → IsBuiltOn start u → (pairs : List Pair)
     → ((pair : Pair) → Contains pairs pair → Contains u.pairs pair) → (name version : List ℕ) (listed : IndexPackage)
     → listed_among pairs name version ≡ Some listed → is_of name version listed.pkg ≡ true
-listed_is start u built [] within name version listed found = absurd (let e : None ≡ Some listed = found in cc)
-listed_is start u built (pair ∷ rest) within name version listed found = at (is_of name version pair.pkg) refl found
+listed_is start u built [] within name version listed is_listed = absurd (let e : None ≡ Some listed = is_listed in cc)
+listed_is start u built (pair ∷ rest) within name version listed is_listed = at (is_of name version pair.pkg) refl is_listed
     (listed_is start u built rest (λ other there. within other (Contains-rest pair rest other there)) name version listed)
   where
     equal : (o : Ordering) → is_eq o ≡ true → o ≡ Equal
@@ -136,13 +136,13 @@ allowed_is_applicable u start db (step.Unpack name version) indexed built is all
     rw (indexed_is name version (listed_of u name version) indexed (allowed 0 rule.NotAdmitted (lit< tt)) is
     (λ listed. listed_is start u built u.pairs (λ pair there. there) name version listed)) refl
 allowed_is_applicable u start db (step.Deconfigure name) indexed built is allowed =
-    one_ready is_deconfigurable name db (record_passes IsInstalled is_deconfigurable name db (λ found has. has) (allowed 0 rule.WrongState (lit< tt)))
+    one_ready is_deconfigurable name db (record_passes IsInstalled is_deconfigurable name db (λ entry has. has) (allowed 0 rule.WrongState (lit< tt)))
 allowed_is_applicable u start db (step.Configure names) indexed built is allowed =
     all_ready is_configurable names db (λ k d within. record_passes IsConfigurable is_configurable _ db
-    (λ found has. both_true (is_unconfigured_state found.state) (is_sound_flag found.flag) has.0 has.1)
+    (λ entry has. both_true (is_unconfigured_state entry.state) (is_sound_flag entry.flag) has.0 has.1)
     (allowed 0 rule.WrongState (lit< tt) k d within))
 allowed_is_applicable u start db (step.Remove name) indexed built is allowed =
-    one_ready is_removable name db (record_passes (λ found. IsPresent found × HasSoundFlag found) is_removable name db
-    (λ found has. both_true (is_present_state found.state) (is_sound_flag found.flag) has.0 has.1) (allowed 0 rule.WrongState (lit< tt)))
+    one_ready is_removable name db (record_passes (λ entry. IsPresent entry × HasSoundFlag entry) is_removable name db
+    (λ entry has. both_true (is_present_state entry.state) (is_sound_flag entry.flag) has.0 has.1) (allowed 0 rule.WrongState (lit< tt)))
 allowed_is_applicable u start db (step.Purge name) indexed built is allowed =
-    one_ready is_purgeable name db (record_passes IsRemoved is_purgeable name db (λ found has. has) (allowed 0 rule.WrongState (lit< tt)))
+    one_ready is_purgeable name db (record_passes IsRemoved is_purgeable name db (λ entry has. has) (allowed 0 rule.WrongState (lit< tt)))

@@ -5,7 +5,7 @@ use Rattle.apply.specs.declared.error.CatchUpError.TheVariants as catch_up_error
 use Rattle.cli_engine.specs.Meaning.{IsReadAs}
 use Rattle.inputs.specs.Texts.{Found, Texts}
 use Rattle.journal.specs.Ledger.{history_of}
-use Rattle.journal.specs.Payload.{Recorded}
+use Rattle.journal.specs.Payload.{RecordedStep}
 use Rattle.journal.specs.declared.error.AppendError.TheVariants as append_error
 use Rattle.journal.specs.declared.ledger.Ledger.{Ledger}
 use Rattle.rules.specs.Database.{Record}
@@ -34,7 +34,7 @@ pub record IsJudgedEnd (texts : Texts) (plan : Found) (text : List ℕ) : Type 0
 
 -- the text that the recorded steps of a good plan lead to is the end that the plan was judged by
 abbrev pub OutputIsJudgedEnd : Type 0
-OutputIsJudgedEnd = (texts : Texts) (plan : Found) (start : List ℕ) (records : List Recorded) (text : List ℕ) → IsPlanned texts plan start records
+OutputIsJudgedEnd = (texts : Texts) (plan : Found) (start : List ℕ) (records : List RecordedStep) (text : List ℕ) → IsPlanned texts plan start records
     → IsEndText texts.arch start records text → IsJudgedEnd texts plan text
 
 -- the status text of a plan that is ready by the texts, and was carried out, is the end that it was judged by
@@ -44,16 +44,16 @@ CarriedOutIsJudgedEnd = (texts : Texts) (plan : Found) (ready : ReadyPlan) (done
 
 -- after each beginning of a good plan its next recorded step can be taken
 abbrev pub GoodPlanIsTaken : Type 0
-GoodPlanIsTaken = (texts : Texts) (plan : Found) (start : List ℕ) (records : List Recorded) → IsPlanned texts plan start records
+GoodPlanIsTaken = (texts : Texts) (plan : Found) (start : List ℕ) (records : List RecordedStep) → IsPlanned texts plan start records
     → IsNeverRefused texts.arch start records
 
 -- E24 never stands against the next step of a good plan, in a journal that has begun with it
 abbrev pub GoodPlanIsNeverRefused : Type 0
-GoodPlanIsNeverRefused = (texts : Texts) (plan : Found) (start : List ℕ) (records : List Recorded) (ledger : Ledger) (name : List ℕ)
+GoodPlanIsNeverRefused = (texts : Texts) (plan : Found) (start : List ℕ) (records : List RecordedStep) (ledger : Ledger) (name : List ℕ)
     → IsPlanned texts plan start records → HasBegunWith texts.arch start records (history_of ledger)
     → ¬ StandsAgainst records ledger (append_error.NotApplicable name)
 
 -- a journal that has begun with a good plan isn't left unfinished for E24
 abbrev pub GoodPlanIsFinished : Type 0
-GoodPlanIsFinished = (texts : Texts) (plan : Found) (start : List ℕ) (records : List Recorded) (file name : List ℕ) → IsPlanned texts plan start records
+GoodPlanIsFinished = (texts : Texts) (plan : Found) (start : List ℕ) (records : List RecordedStep) (file name : List ℕ) → IsPlanned texts plan start records
     → HasBegun texts.arch start records file → ¬ IsUnfinished texts.arch start records file (catch_up_error.NotApplicable name)

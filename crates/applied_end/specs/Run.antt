@@ -3,7 +3,7 @@ use Rattle.std.specs.Prelude.{◌≡◌, ◌≤◌, ℕ, List, length, map, Opti
 use Rattle.std.specs.List.{AllZip}
 use Rattle.apply.specs.Planned.{HasNext, IsOfPlan, planned}
 use Rattle.journal.specs.History.{History, IsApplicable, Leads}
-use Rattle.journal.specs.Payload.{Recorded}
+use Rattle.journal.specs.Payload.{RecordedStep}
 use Rattle.rules.specs.Database.{Record}
 use Rattle.rules.specs.Run.{Run}
 use Rattle.rules.specs.Universe.{Universe}
@@ -25,12 +25,12 @@ RunIsTaken = (arch : List ℕ) (u : Universe) (start finish : List Record) (step
 
 -- steps lead from a status file to one alone
 abbrev pub OneLast : Type 0
-OneLast = (arch : List ℕ) (slots first second : List FileSlot) (steps : List Recorded) → Leads arch slots steps first → Leads arch slots steps second
+OneLast = (arch : List ℕ) (slots first second : List FileSlot) (steps : List RecordedStep) → Leads arch slots steps first → Leads arch slots steps second
     → first ≡ second
 
 -- where steps lead from sound slots, these are sound
 abbrev pub LeadsKeepsSound : Type 0
-LeadsKeepsSound = (arch : List ℕ) (slots last : List FileSlot) (steps : List Recorded) → Leads arch slots steps last → AreSound arch slots
+LeadsKeepsSound = (arch : List ℕ) (slots last : List FileSlot) (steps : List RecordedStep) → Leads arch slots steps last → AreSound arch slots
     → AreSound arch last
 
 -- what the journal reads of the text of slots that were read is these, as they are stored
@@ -51,7 +51,7 @@ pub record IsStatusFileOf (arch text : List ℕ) (db : List Record) : Type 0 whe
 
 -- the history is of the architecture, has this start and the first steps of the plan, and what it has of the status file is what
 -- they lead to
-pub record HasBegunWith (arch start : List ℕ) (plan : List Recorded) (h : History) : Type 0 where
+pub record HasBegunWith (arch start : List ℕ) (plan : List RecordedStep) (h : History) : Type 0 where
   pub for_it : h.arch ≡ arch
   pub of_plan : IsOfPlan start plan h
   pub first : List FileSlot
@@ -59,6 +59,6 @@ pub record HasBegunWith (arch start : List ℕ) (plan : List Recorded) (h : Hist
   pub leads : Leads arch first h.steps h.slots
 
 -- after each beginning of the plan its next step can be taken
-abbrev pub IsNeverRefused : List ℕ → List ℕ → List Recorded → Type 0
-IsNeverRefused arch start plan = (h : History) (next : Recorded) → HasBegunWith arch start plan h → HasNext plan h.steps next
+abbrev pub IsNeverRefused : List ℕ → List ℕ → List RecordedStep → Type 0
+IsNeverRefused arch start plan = (h : History) (next : RecordedStep) → HasBegunWith arch start plan h → HasNext plan h.steps next
     → IsApplicable arch next h.slots

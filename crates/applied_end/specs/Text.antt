@@ -11,13 +11,13 @@ use Rattle.rules.specs.declared.step.Step.{Step}
 use Rattle.stanza.specs.declared.form.Form.TheVariants.{Plain}
 use Rattle.stanza.specs.Stanza.{StanzaText, items_of}
 use Rattle.status.specs.Applicable.{handed_in}
-use Rattle.unpack_texts.specs.Texts.{IsTextFor, ended}
+use Rattle.unpack_texts.specs.Texts.{IsTextFor, with_newline}
 use Rattle.applied_end.specs.Step.{IsStanzaOf}
 
 -- the text of a stanza of a control file is read as the same stanza of an index with a newline at its end
 abbrev pub EndedReadsSame : Type 0
 EndedReadsSame = (arch text : List ℕ) (stanza : StanzaText) → Contains (items_of Plain text) (Ok stanza)
-    → alone arch (ended stanza.raw) ≡ alone arch stanza.raw
+    → alone arch (with_newline stanza.raw) ≡ alone arch stanza.raw
 
 -- what the journal hands in for the step, where this text is given, is the stanza that the rules unpack
 abbrev pub IsHandedIn : List ℕ → Universe → Step → Option (List ℕ) → Type 0

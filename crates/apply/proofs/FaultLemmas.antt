@@ -2,7 +2,7 @@
 use Rattle.std.proofs.Common.{◌≡◌, ◌≢◌, ◌⊎◌, inl, inr, ℕ, List, false, refl}
 use Rattle.disk.specs.Facts.{DiskFacts}
 use Rattle.journal.specs.Ledger.{history_of, IsSettled}
-use Rattle.journal.specs.Payload.{Recorded}
+use Rattle.journal.specs.Payload.{RecordedStep}
 use Rattle.journal.specs.declared.ledger.Ledger.{Ledger}
 use Rattle.apply.specs.Fault.{IsCatchUpFault}
 use Rattle.apply.specs.Progress.{IsUpTo}
@@ -11,15 +11,15 @@ use Rattle.apply.specs.declared.error.CatchUpError.TheVariants as error
 use Rattle.apply.specs.RunFault.{IsFinishFault}
 
 -- of a journal that was settled no error says that it is to be opened again
-pub finish_fault : (start : List ℕ) (plan : List Recorded) (old new : Ledger) (d : DiskFacts) (e : CatchUpError) → IsCatchUpFault start plan old new e
+pub finish_fault : (start : List ℕ) (plan : List RecordedStep) (old new : Ledger) (d : DiskFacts) (e : CatchUpError) → IsCatchUpFault start plan old new e
     → IsUpTo plan (history_of old) (history_of new) → (e ≢ error.Disk → IsSettled new d) → IsFinishFault start plan (history_of old) e
-finish_fault start plan old new d error.OutOfMemory fault way settled = tt
-finish_fault start plan old new d error.TooLarge fault way settled = record { ledger = new; reached = way; against = fault }
-finish_fault start plan old new d (error.NotApplicable name) fault way settled = record { ledger = new; reached = way; against = fault }
-finish_fault start plan old new d error.Disk fault way settled = tt
-finish_fault start plan old new d error.Reopen fault way settled =
+finish_fault start plan old new d error.OutOfMemory fault progress settled = tt
+finish_fault start plan old new d error.TooLarge fault progress settled = record { ledger = new; reached = progress; against = fault }
+finish_fault start plan old new d (error.NotApplicable name) fault progress settled = record { ledger = new; reached = progress; against = fault }
+finish_fault start plan old new d error.Disk fault progress settled = tt
+finish_fault start plan old new d error.Reopen fault progress settled =
     let whole : new.broken ≡ false = (settled (λ e. cc)).whole in cc
-finish_fault start plan old new d error.Mismatch fault way settled = fault
+finish_fault start plan old new d error.Mismatch fault progress settled = fault
 
 -- an error is that of another plan, or isn't
 pub is_mismatch : (e : CatchUpError) → (e ≡ error.Mismatch) ⊎ (e ≢ error.Mismatch)

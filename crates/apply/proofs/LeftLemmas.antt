@@ -7,10 +7,10 @@ use Rattle.status_text.specs.Slot.{FileSlot}
 use Rattle.status.specs.Stored.{read_stored}
 use Rattle.journal.specs.History.{History, Leads, Shows, slots_left}
 use Rattle.journal.specs.Ledger.{history_of, IsSettled, MeansAsBefore}
-use Rattle.journal.specs.Payload.{Recorded}
+use Rattle.journal.specs.Payload.{RecordedStep}
 use Rattle.journal.specs.declared.ledger.Ledger.{Ledger}
 use Rattle.apply.specs.Planned.{IsOfPlan}
-use Rattle.apply.specs.Progress.{IsCaughtUp, IsPartWay, ShowsUpTo}
+use Rattle.apply.specs.Progress.{IsCaughtUp, IsPartTaken, ShowsUpTo}
 use Rattle.apply.specs.Run.{HasBegun, IsAtEnd, IsLeft, IsRunOn, KeepsTaken, ShowsOnward}
 use Rattle.apply.specs.RunFault.{IsRunFault}
 use Rattle.apply.specs.declared.error.RunError.{RunError}
@@ -29,7 +29,7 @@ settled_shows l d settled c left = record {
 }
 
 -- steps lead on from where others lead to
-leads_on : (arch : List ℕ) (slots mid last : List FileSlot) (steps taken : List Recorded) → Leads arch slots steps mid → Leads arch mid taken last
+leads_on : (arch : List ℕ) (slots mid last : List FileSlot) (steps taken : List RecordedStep) → Leads arch slots steps mid → Leads arch mid taken last
     → Leads arch slots (steps ++ taken) last
 leads_on arch slots mid last [] taken first then = subst (λ (s : List FileSlot). Leads arch s taken last) first then
 leads_on arch slots mid last (r ∷ steps) taken first then = (first.0, leads_on arch (slots_left arch r slots) mid last steps taken first.1 then)
@@ -45,25 +45,25 @@ pub shown_start : (file : List ℕ) (h : History) → Shows file h → HasStart 
 shown_start file h shows = record { first = shows.stands.first; begins = shows.stands.begins; leads = shows.stands.leads }
 
 -- a journal that was brought to the plan's end
-pub at_end : (arch start : List ℕ) (plan : List Recorded) (old new : History) → old.arch ≡ arch → HasStart old → IsOfPlan start plan old → IsCaughtUp plan old new
+pub at_end : (arch start : List ℕ) (plan : List RecordedStep) (old new : History) → old.arch ≡ arch → HasStart old → IsOfPlan start plan old → IsCaughtUp plan old new
     → IsAtEnd arch start plan new
-at_end arch start plan old new for_it has of_plan way = record {
-  for_it = way.goes_on.arch ∙ for_it;
-  start_is = way.goes_on.start ∙ of_plan.start_is;
-  all = way.all;
+at_end arch start plan old new for_it has of_plan progress = record {
+  for_it = progress.goes_on.arch ∙ for_it;
+  start_is = progress.goes_on.start ∙ of_plan.start_is;
+  all = progress.all;
   first = has.first;
   begins = subst (λ (s : List ℕ). read_stored arch s ≡ Ok has.first) of_plan.start_is (subst (λ (a : List ℕ). read_stored a old.start ≡ Ok has.first) for_it has.begins);
   leads = subst (λ (a : List ℕ). Leads a has.first plan new.slots) for_it
-      (subst (λ (steps : List Recorded). Leads old.arch has.first steps new.slots) (sym way.goes_on.steps ∙ way.all)
-      (leads_on old.arch has.first old.slots new.slots old.steps way.taken has.leads way.goes_on.leads));
+      (subst (λ (steps : List RecordedStep). Leads old.arch has.first steps new.slots) (sym progress.goes_on.steps ∙ progress.all)
+      (leads_on old.arch has.first old.slots new.slots old.steps progress.taken has.leads progress.goes_on.leads));
 }
 
 -- what an opening leaves
-pub as_before : (arch start : List ℕ) (plan : List Recorded) (a b : DiskFacts) → LeavesOnly (MeansAsBefore arch a) a b → LeavesOnly (IsLeft arch start plan a) a b
+pub as_before : (arch start : List ℕ) (plan : List RecordedStep) (a b : DiskFacts) → LeavesOnly (MeansAsBefore arch a) a b → LeavesOnly (IsLeft arch start plan a) a b
 as_before arch start plan a b run = weaker (MeansAsBefore arch a) (IsLeft arch start plan a) a b (λ c means. inl means) run
 
 -- what is left behind it by the steps that are added
-pub then_onward : (arch start : List ℕ) (plan : List Recorded) (h : History) (a b d : DiskFacts) → LeavesOnly (MeansAsBefore arch a) a b → h.arch ≡ arch
+pub then_onward : (arch start : List ℕ) (plan : List RecordedStep) (h : History) (a b d : DiskFacts) → LeavesOnly (MeansAsBefore arch a) a b → h.arch ≡ arch
     → Shows a.seen h → IsOfPlan start plan h → LeavesOnly (ShowsUpTo plan h) b d → LeavesOnly (IsLeft arch start plan a) a d
 then_onward arch start plan h a b d opened for_it shows of_plan run =
     then_runs (IsLeft arch start plan a) a b d (as_before arch start plan a b opened)
@@ -71,11 +71,11 @@ then_onward arch start plan h a b d opened for_it shows of_plan run =
     (λ c on. inr (record { begun = record { h = h; for_it = for_it; shows = shows; of_plan = of_plan }; shows = on })) run)
 
 -- what is left by a reading alone
-pub by_reading : (arch start : List ℕ) (plan : List Recorded) (a b : DiskFacts) → Stays a b → LeavesOnly (IsLeft arch start plan a) a b
+pub by_reading : (arch start : List ℕ) (plan : List RecordedStep) (a b : DiskFacts) → Stays a b → LeavesOnly (IsLeft arch start plan a) a b
 by_reading arch start plan a b stays = stays_so (IsLeft arch start plan a) a b stays (λ c left. inl (c, left, inl refl))
 
 -- what is left of a file that was only read before
-pub behind_reading : (arch start : List ℕ) (plan : List Recorded) (a b d : DiskFacts) → Stays a b → LeavesOnly (IsLeft arch start plan b) b d
+pub behind_reading : (arch start : List ℕ) (plan : List RecordedStep) (a b d : DiskFacts) → Stays a b → LeavesOnly (IsLeft arch start plan b) b d
     → LeavesOnly (IsLeft arch start plan a) a d
 behind_reading arch start plan a b d stays run =
     then_runs (IsLeft arch start plan a) a b d (by_reading arch start plan a b stays)
@@ -85,15 +85,15 @@ behind_reading arch start plan a b d stays run =
     (λ on. inr (subst (λ (seen : List ℕ). ShowsOnward arch start plan seen c) stays.seen on)) left) run)
 
 -- all steps of the plan are first steps of it
-pub all_is_part : (plan : List Recorded) (old new : History) → IsCaughtUp plan old new → IsPartWay plan old new
-all_is_part plan old new way = record {
-  taken = way.taken;
-  goes_on = way.goes_on;
-  within = ([], sym way.all ∙ sym (append-nil new.steps));
+pub all_is_part : (plan : List RecordedStep) (old new : History) → IsCaughtUp plan old new → IsPartTaken plan old new
+all_is_part plan old new progress = record {
+  taken = progress.taken;
+  goes_on = progress.goes_on;
+  within = ([], sym progress.all ∙ sym (append-nil new.steps));
 }
 
 -- a run on a file that was only read before
-pub run_behind : {T : Type 0} (arch start : List ℕ) (plan : List Recorded) (a b d : DiskFacts) (r : Result T RunError) → Stays a b
+pub run_behind : {T : Type 0} (arch start : List ℕ) (plan : List RecordedStep) (a b d : DiskFacts) (r : Result T RunError) → Stays a b
     → IsRunOn arch start plan b r d → IsRunOn arch start plan a r d
 run_behind arch start plan a b d r stays run = record {
   any_moment = behind_reading arch start plan a b d stays run.any_moment;

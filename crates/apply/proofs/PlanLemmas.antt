@@ -4,7 +4,7 @@ use Rattle.std.proofs.Math.ListN.{get_or-map}
 use Rattle.std.proofs.lemmas.List.{length-map}
 use Rattle.std.specs.Option.{option_copied}
 use Rattle.journal.specs.Adding.{recorded_of}
-use Rattle.journal.specs.Payload.{Recorded}
+use Rattle.journal.specs.Payload.{RecordedStep}
 use Rattle.rules.specs.declared.step.Step.{Step}
 use Rattle.apply.specs.Planned.{BeginsWith, planned}
 
@@ -33,18 +33,18 @@ planned_next zero (a ∷ steps) (b ∷ texts) s t lt same = refl
 planned_next (suc n) (a ∷ steps) (b ∷ texts) s t lt same = planned_next n steps texts s t (omega (arith, lt)) (omega (arith, same))
 
 -- what the first of two lists has behind the second
-behind : (plan steps : List Recorded) (later : List Recorded) → plan ≡ steps ++ later → drop (length steps) plan ≡ later
+behind : (plan steps : List RecordedStep) (later : List RecordedStep) → plan ≡ steps ++ later → drop (length steps) plan ≡ later
 behind plan [] later is = is
-behind plan (r ∷ steps) later is = ap (λ (l : List Recorded). drop (suc (length steps)) l) is ∙ behind (steps ++ later) steps later refl
+behind plan (r ∷ steps) later is = ap (λ (l : List RecordedStep). drop (suc (length steps)) l) is ∙ behind (steps ++ later) steps later refl
 
 -- where a plan begins with these steps, those behind them are missing
-pub missing_is : (steps : List Step) (texts : List (Option (List ℕ))) (taken : List Recorded) → BeginsWith (planned steps texts) taken
+pub missing_is : (steps : List Step) (texts : List (Option (List ℕ))) (taken : List RecordedStep) → BeginsWith (planned steps texts) taken
     → planned steps texts ≡ taken ++ planned (drop (length taken) steps) (drop (length taken) texts)
 missing_is steps texts taken begun =
-    begun.1 ∙ ap (λ (l : List Recorded). taken ++ l) (sym (behind (planned steps texts) taken begun.0 begun.1) ∙ planned_drop (length taken) steps texts)
+    begun.1 ∙ ap (λ (l : List RecordedStep). taken ++ l) (sym (behind (planned steps texts) taken begun.0 begun.1) ∙ planned_drop (length taken) steps texts)
 
 -- no more steps were taken than the plan has
-pub no_longer : (plan taken : List Recorded) → BeginsWith plan taken → length taken ≤ length plan
+pub no_longer : (plan taken : List RecordedStep) → BeginsWith plan taken → length taken ≤ length plan
 no_longer plan taken begun = omega (arith, ap length begun.1, length-append taken begun.0)
 
 -- the step at a place, and what is handed in for it, in front of what is recorded behind it
@@ -57,7 +57,7 @@ step_in_front steps texts i s lt same step =
     ∙ rw add-one (ap (λ (x : Step). recorded_of x (get_or (map option_copied texts) i None) ∷ behind-is) (sym step)
     ∙ ap (λ (x : Option (List ℕ)). recorded_of s x ∷ behind-is) (get_or-map option_copied texts i None))
   where
-    behind-is : List Recorded
+    behind-is : List RecordedStep
     behind-is = planned (drop (suc i) steps) (drop (suc i) (map option_copied texts))
 
 -- a plan has a step for each text
@@ -66,18 +66,18 @@ pub length-plan : (steps : List Step) (texts : List (Option (Bor (List ℕ)))) �
 length-plan steps texts same = length-planned steps (map option_copied texts) (length-map texts option_copied ∙ same)
 
 -- the step that was taken at a place, in front of those behind it
-pub taken_in_front : (taken : List Recorded) (i : ℕ) (r : Recorded) → i < length taken → r ≡ get_or taken i r → drop i taken ≡ r ∷ drop (i + 1) taken
-taken_in_front taken i r lt is = drop-cons taken i r lt ∙ rw add-one (ap (λ (x : Recorded). x ∷ drop (suc i) taken) (sym is))
+pub taken_in_front : (taken : List RecordedStep) (i : ℕ) (r : RecordedStep) → i < length taken → r ≡ get_or taken i r → drop i taken ≡ r ∷ drop (i + 1) taken
+taken_in_front taken i r lt is = drop-cons taken i r lt ∙ rw add-one (ap (λ (x : RecordedStep). x ∷ drop (suc i) taken) (sym is))
 
 -- where another step is in front the plan doesn't begin so
-pub begins_not : (plan taken : List Recorded) (wanted found : Recorded) (plan-behind taken-behind : List Recorded) → plan ≡ wanted ∷ plan-behind
-    → taken ≡ found ∷ taken-behind → BeginsWith plan taken → found ≡ wanted
-begins_not plan taken wanted found plan-behind taken-behind p t begun = cc (p, t, begun.1)
+pub begins_not : (plan taken : List RecordedStep) (wanted recorded : RecordedStep) (plan-behind taken-behind : List RecordedStep) → plan ≡ wanted ∷ plan-behind
+    → taken ≡ recorded ∷ taken-behind → BeginsWith plan taken → recorded ≡ wanted
+begins_not plan taken wanted recorded plan-behind taken-behind p t begun = cc (p, t, begun.1)
 
 -- where the same step is in front it begins so exactly where what is behind does
-pub begins_same : (plan taken : List Recorded) (wanted found : Recorded) (plan-behind taken-behind : List Recorded) → plan ≡ wanted ∷ plan-behind
-    → taken ≡ found ∷ taken-behind → found ≡ wanted → BeginsWith plan taken ↔ BeginsWith plan-behind taken-behind
-begins_same plan taken wanted found plan-behind taken-behind p t same = (λ begun. (begun.0, cc (p, t, begun.1)), λ begun. (begun.0, cc (p, t, same, begun.1)))
+pub begins_same : (plan taken : List RecordedStep) (wanted recorded : RecordedStep) (plan-behind taken-behind : List RecordedStep) → plan ≡ wanted ∷ plan-behind
+    → taken ≡ recorded ∷ taken-behind → recorded ≡ wanted → BeginsWith plan taken ↔ BeginsWith plan-behind taken-behind
+begins_same plan taken wanted recorded plan-behind taken-behind p t same = (λ begun. (begun.0, cc (p, t, begun.1)), λ begun. (begun.0, cc (p, t, same, begun.1)))
 
 -- lists are the same where they are so behind a place, with the same name at it
 pub same_more : (left right : List (List ℕ)) (i : ℕ) (a b : List ℕ) → i < length left → length left ≡ length right → a ≡ get_or left i a → b ≡ get_or right i b
@@ -91,18 +91,18 @@ same_more left right i a b lt len l r same so_far =
         drop-cons left i a lt ∙ cc (l, r, same, one) ∙ sym (drop-cons right i b (omega (arith, lt, len)))
 
 -- any plan begins with no step
-pub begins_all : (plan taken : List Recorded) → taken ≡ [] → BeginsWith plan taken
-begins_all plan taken none = (plan, ap (λ (l : List Recorded). l ++ plan) (sym none))
+pub begins_all : (plan taken : List RecordedStep) → taken ≡ [] → BeginsWith plan taken
+begins_all plan taken none = (plan, ap (λ (l : List RecordedStep). l ++ plan) (sym none))
 
 -- behind the steps that were taken this one is next
-pub next_is : (steps : List Step) (texts : List (Option (Bor (List ℕ)))) (taken : List Recorded) (i : ℕ) (s : Step) → i < length steps
+pub next_is : (steps : List Step) (texts : List (Option (Bor (List ℕ)))) (taken : List RecordedStep) (i : ℕ) (s : Step) → i < length steps
     → length texts ≡ length steps → s ≡ get_or steps i s
     → planned steps (map option_copied texts) ≡ taken ++ planned (drop i steps) (drop i (map option_copied texts))
     → planned steps (map option_copied texts)
     ≡ taken ++ recorded_of s (option_copied (get_or texts i None)) ∷ planned (drop (i + 1) steps) (drop (i + 1) (map option_copied texts))
-next_is steps texts taken i s lt same step left = left ∙ ap (λ (l : List Recorded). taken ++ l) (step_in_front steps texts i s lt same step)
+next_is steps texts taken i s lt same step left = left ∙ ap (λ (l : List RecordedStep). taken ++ l) (step_in_front steps texts i s lt same step)
 
 -- what is behind the next step is left when it was taken
-pub left_is : (plan taken after : List Recorded) (r : Recorded) (later : List Recorded) → plan ≡ taken ++ r ∷ later → after ≡ taken ++ r ∷ []
+pub left_is : (plan taken after : List RecordedStep) (r : RecordedStep) (later : List RecordedStep) → plan ≡ taken ++ r ∷ later → after ≡ taken ++ r ∷ []
     → plan ≡ after ++ later
-left_is plan taken after r later is more = is ∙ sym (append_assoc taken (r ∷ []) later) ∙ ap (λ (l : List Recorded). l ++ later) (sym more)
+left_is plan taken after r later is more = is ∙ sym (append_assoc taken (r ∷ []) later) ∙ ap (λ (l : List RecordedStep). l ++ later) (sym more)

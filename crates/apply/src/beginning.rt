@@ -18,10 +18,14 @@ pub fn begin<D: Disk>(
     start: &[u8],
 ) -> Result<(), BeginError>
     ensures honest { D.honest disk.new ↔ D.honest disk.old }
-    ensures begun { OnOk result (D.honest disk.old → IsBegunOn arch.now start.now (D.facts disk.old) (D.facts disk.new)) }
-    ensures fault { IfErr result (λ e. D.honest disk.old → IsBeginFault arch.now start.now (D.facts disk.old).seen e) }
-    ensures refused { IfErr result (λ e. ¬ IsDiskError e → D.honest disk.old → Stays (D.facts disk.old) (D.facts disk.new)) }
-    ensures failed { IfErr result (λ e. IsDiskError e → D.faults disk.new ≡ min (D.faults disk.old + 1) (2 ^ 64 - 1)) }
+    ensures begun { OnOk result
+        (D.honest disk.old → IsBegunOn arch.now start.now (D.facts disk.old) (D.facts disk.new)) }
+    ensures fault { IfErr result
+        (λ e. D.honest disk.old → IsBeginFault arch.now start.now (D.facts disk.old).seen e) }
+    ensures refused { IfErr result
+        (λ e. ¬ IsDiskError e → D.honest disk.old → Stays (D.facts disk.old) (D.facts disk.new)) }
+    ensures failed { IfErr result
+        (λ e. IsDiskError e → D.faults disk.new ≡ min (D.faults disk.old + 1) (2 ^ 64 - 1)) }
     ensures other { IfErr result (λ e. ¬ IsDiskError e → D.faults disk.new ≡ D.faults disk.old) }
     ensures count { OnOk result (D.faults disk.new ≡ D.faults disk.old) }
 {

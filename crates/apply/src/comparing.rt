@@ -5,7 +5,7 @@ ghost use Rattle.journal.specs.Adding.{recorded_of, text_for};
 ghost use Rattle.journal.specs.Ledger.{history_of};
 ghost use Rattle.apply.specs.Planned.{BeginsWith, IsOfPlan, planned};
 
-use journal::{Ledger, Recorded};
+use journal::{Ledger, RecordedStep};
 use rules::{Name, Step};
 
 // Whether the names are the same.
@@ -63,16 +63,17 @@ fn text_for<'a>(step: &Step, given: Option<&'a [u8]>) -> Option<&'a [u8]>
 }
 
 // Whether this is what is recorded of the step.
-fn is_recorded(recorded: &Recorded<'_>, step: &Step, given: Option<&[u8]>) -> bool
+fn is_recorded(recorded: &RecordedStep<'_>, step: &Step, given: Option<&[u8]>) -> bool
     ensures { IsTrue result ↔ recorded.now ≡ recorded_of step.now (option_copied given.entry) }
 {
     is_same_step(recorded.step(), step) && is_same_text(recorded.stanza(), text_for(step, given))
 }
 
 // Whether the first steps of the plan were taken.
-fn begins_with(steps: &[Step], texts: &[Option<&[u8]>], taken: &[Recorded<'_>]) -> bool
+fn begins_with(steps: &[Step], texts: &[Option<&[u8]>], taken: &[RecordedStep<'_>]) -> bool
     requires { length texts.now ≡ length steps.now }
-    ensures { IsTrue result ↔ BeginsWith (planned steps.now (map option_copied texts.now)) taken.now }
+    ensures { IsTrue result
+        ↔ BeginsWith (planned steps.now (map option_copied texts.now)) taken.now }
 {
     if taken.len() > steps.len() {
         return false;
@@ -93,7 +94,9 @@ pub(crate) fn is_of_plan(
     texts: &[Option<&[u8]>],
 ) -> bool
     requires { length texts.now ≡ length steps.now }
-    ensures { IsTrue result ↔ IsOfPlan start.now (planned steps.now (map option_copied texts.now)) (history_of ledger.now) }
+    ensures { IsTrue result
+        ↔ IsOfPlan start.now (planned steps.now (map option_copied texts.now))
+        (history_of ledger.now) }
 {
     ledger.start() == start && begins_with(steps, texts, ledger.history())
 }

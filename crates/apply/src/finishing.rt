@@ -28,20 +28,32 @@ pub(crate) fn finish<'a, 's, D: Disk>(
 ) -> Result<Vec<u8>, CatchUpError<'s>>
     requires { length texts.now ≡ length steps.now }
     ensures honest { D.honest disk.new ↔ D.honest disk.old }
-    ensures of_plan { (¬ IsErrOf result error.Mismatch) → IsOfPlan start.now (planned steps.now (map option_copied texts.now)) (history_of ledger.old) }
-    ensures untouched { IsErrOf result error.Mismatch → (ledger.new ≡ ledger.old) × (disk.new ≡ disk.old) }
+    ensures of_plan { (¬ IsErrOf result error.Mismatch)
+        → IsOfPlan start.now (planned steps.now (map option_copied texts.now))
+        (history_of ledger.old) }
+    ensures untouched { IsErrOf result error.Mismatch → (ledger.new ≡ ledger.old)
+        × (disk.new ≡ disk.old) }
     ensures any_moment { D.honest disk.old → IsSettled ledger.old (D.facts disk.old)
-        → LeavesOnly (ShowsUpTo (planned steps.now (map option_copied texts.now)) (history_of ledger.old)) (D.facts disk.old) (D.facts disk.new) }
-    ensures done { OnOk result (IsCaughtUp (planned steps.now (map option_copied texts.now)) (history_of ledger.old) (history_of ledger.new)) }
+        → LeavesOnly (ShowsUpTo (planned steps.now (map option_copied texts.now))
+        (history_of ledger.old)) (D.facts disk.old) (D.facts disk.new) }
+    ensures done { OnOk result
+        (IsCaughtUp (planned steps.now (map option_copied texts.now)) (history_of ledger.old)
+        (history_of ledger.new)) }
     ensures text { IfOk result (λ text. text.items ≡ slots_text (history_of ledger.new).slots) }
     ensures kept { OnOk result (D.honest disk.old → IsSettled ledger.old (D.facts disk.old)
         → (c : List ℕ) → (D.facts disk.new).leaves c → Shows c (history_of ledger.new)) }
     ensures fault { IfErr result (λ e. D.honest disk.old → IsSettled ledger.old (D.facts disk.old)
-        → IsFinishFault start.now (planned steps.now (map option_copied texts.now)) (history_of ledger.old) e) }
-    ensures remembered { OnErr result (IsUpTo (planned steps.now (map option_copied texts.now)) (history_of ledger.old) (history_of ledger.new)) }
+        → IsFinishFault start.now (planned steps.now (map option_copied texts.now))
+        (history_of ledger.old) e) }
+    ensures remembered { OnErr result
+        (IsUpTo (planned steps.now (map option_copied texts.now)) (history_of ledger.old)
+        (history_of ledger.new)) }
     ensures acknowledged { OnErr result (D.honest disk.old → IsSettled ledger.old (D.facts disk.old)
-        → (c : List ℕ) → (D.facts disk.new).leaves c → ShowsOrNext (planned steps.now (map option_copied texts.now)) (history_of ledger.new) c) }
-    ensures failed { IsErrOf result error.Disk → D.faults disk.new ≡ min (D.faults disk.old + 1) (2 ^ 64 - 1) }
+        → (c : List ℕ) → (D.facts disk.new).leaves c
+        → ShowsOrNext (planned steps.now (map option_copied texts.now))
+        (history_of ledger.new) c) }
+    ensures failed { IsErrOf result error.Disk → D.faults disk.new
+        ≡ min (D.faults disk.old + 1) (2 ^ 64 - 1) }
     ensures refused { IfErr result (λ e. e ≢ error.Disk → D.faults disk.new ≡ D.faults disk.old) }
     ensures count { OnOk result (D.faults disk.new ≡ D.faults disk.old) }
 {

@@ -28,9 +28,13 @@ pub fn go_on<'a, 's, D: Disk>(
     requires { length texts.now ≡ length steps.now }
     ensures honest { D.honest disk.new ↔ D.honest disk.old }
     ensures run { D.honest disk.old → file.now ≡ (D.facts disk.old).seen
-        → IsRunOn arch.now start.now (planned steps.now (map option_copied texts.now)) (D.facts disk.old) result (D.facts disk.new) }
-    ensures end { IfOk result (λ text. IsEndText arch.now start.now (planned steps.now (map option_copied texts.now)) text.items) }
-    ensures failed { IfErr result (λ e. IsDiskFault e → D.faults disk.new ≡ min (D.faults disk.old + 1) (2 ^ 64 - 1)) }
+        → IsRunOn arch.now start.now (planned steps.now (map option_copied texts.now))
+        (D.facts disk.old) result (D.facts disk.new) }
+    ensures end { IfOk result
+        (λ text. IsEndText arch.now start.now
+        (planned steps.now (map option_copied texts.now)) text.items) }
+    ensures failed { IfErr result
+        (λ e. IsDiskFault e → D.faults disk.new ≡ min (D.faults disk.old + 1) (2 ^ 64 - 1)) }
     ensures other { IfErr result (λ e. ¬ IsDiskFault e → D.faults disk.new ≡ D.faults disk.old) }
     ensures count { OnOk result (D.faults disk.new ≡ D.faults disk.old) }
 {

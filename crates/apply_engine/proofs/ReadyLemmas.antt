@@ -2,7 +2,7 @@
 use Rattle.std.proofs.Common.{◌≡◌, ◌⊎◌, ℕ, List, Ok, Err, arith, refl, subst}
 use Rattle.disk.specs.Calls.{Stays}
 use Rattle.disk.specs.Facts.{DiskFacts}
-use Rattle.journal.specs.Payload.{Recorded}
+use Rattle.journal.specs.Payload.{RecordedStep}
 use Rattle.journal.specs.declared.error.OpenError.{OpenError}
 use Rattle.journal.specs.declared.error.OpenError.TheVariants as open_error
 use Rattle.apply.specs.Run.{HasBegun, IsRunOn, KeepsTaken}
@@ -30,7 +30,7 @@ answered texts plan u steps verdict is = record {
 }
 
 -- a run whose answer is told otherwise, on a file that was only read before
-module _ {T U : Type 0} (arch start : List ℕ) (plan : List Recorded) (a b d : DiskFacts) where
+module _ {T U : Type 0} (arch start : List ℕ) (plan : List RecordedStep) (a b d : DiskFacts) where
   pub run_done : (x : T) (y : U) → Stays a b → IsRunOn {T = T} arch start plan b (Ok x) d → IsRunOn {T = U} arch start plan a (Ok y) d
   run_done x y stays run = record {
     any_moment = behind_reading arch start plan a b d stays run.any_moment;
@@ -50,7 +50,7 @@ module _ {T U : Type 0} (arch start : List ℕ) (plan : List Recorded) (a b d : 
   }
 
 -- a run that wasn't begun, since the file couldn't be read, or for want of memory before that
-pub run_unread : {U : Type 0} (arch start : List ℕ) (plan : List Recorded) (a b : DiskFacts) (e : OpenError) → Stays a b
+pub run_unread : {U : Type 0} (arch start : List ℕ) (plan : List RecordedStep) (a b : DiskFacts) (e : OpenError) → Stays a b
     → (e ≡ open_error.OutOfMemory) ⊎ (e ≡ open_error.Disk) → IsRunOn {T = U} arch start plan a (Err (NotOpened e)) b
 run_unread arch start plan a b e stays why = record {
   any_moment = by_reading arch start plan a b stays;

@@ -8,7 +8,7 @@ use Rattle.rules.specs.declared.step.Verdict.{Verdict}
 use Rattle.rules.specs.declared.step.Verdict.TheVariants.{Yes}
 use Rattle.status_text.specs.Slot.{FileSlot}
 use Rattle.status.specs.Text.{slots_text}
-use Rattle.journal.specs.Payload.{Recorded}
+use Rattle.journal.specs.Payload.{RecordedStep}
 use Rattle.apply.specs.Planned.{planned}
 use Rattle.inputs.specs.ReadAs.{AreNamed}
 use Rattle.inputs.specs.Texts.{Found, Texts, status_file_of}
@@ -25,7 +25,7 @@ pub record IsAnswerOf (texts : Texts) (plan : Found) (u : Universe) (steps : Lis
 
 -- by the texts the plan is good, its journal begins with the text of the status file's database, and these are recorded of its
 -- steps: with each unpacking the text of its stanza
-pub record IsPlanned (texts : Texts) (plan : Found) (start : List ℕ) (records : List Recorded) : Type 0 where
+pub record IsPlanned (texts : Texts) (plan : Found) (start : List ℕ) (records : List RecordedStep) : Type 0 where
   pub universe : Universe
   pub steps : List Step
   pub files : List (List ℕ)

@@ -61,11 +61,19 @@ impl GoodPlan {
     /// Makes the file of the disk a journal for the plan, where no journal was made of it before, as `apply::begin` does.
     pub fn begin<D: Disk>(&self, alloc: Global, disk: &mut D) -> Result<(), BeginError>
         ensures honest { D.honest disk.new ↔ D.honest disk.old }
-        ensures begun { OnOk result (D.honest disk.old → IsBegunOn self.now.arch self.now.start (D.facts disk.old) (D.facts disk.new)) }
-        ensures fault { IfErr result (λ e. D.honest disk.old → IsBeginFault self.now.arch self.now.start (D.facts disk.old).seen e) }
-        ensures refused { IfErr result (λ e. ¬ IsDiskError e → D.honest disk.old → Stays (D.facts disk.old) (D.facts disk.new)) }
-        ensures failed { IfErr result (λ e. IsDiskError e → D.faults disk.new ≡ min (D.faults disk.old + 1) (2 ^ 64 - 1)) }
-        ensures other { IfErr result (λ e. ¬ IsDiskError e → D.faults disk.new ≡ D.faults disk.old) }
+        ensures begun { OnOk result
+            (D.honest disk.old
+            → IsBegunOn self.now.arch self.now.start (D.facts disk.old) (D.facts disk.new)) }
+        ensures fault { IfErr result
+            (λ e. D.honest disk.old
+            → IsBeginFault self.now.arch self.now.start (D.facts disk.old).seen e) }
+        ensures refused { IfErr result
+            (λ e. ¬ IsDiskError e → D.honest disk.old
+            → Stays (D.facts disk.old) (D.facts disk.new)) }
+        ensures failed { IfErr result
+            (λ e. IsDiskError e → D.faults disk.new ≡ min (D.faults disk.old + 1) (2 ^ 64 - 1)) }
+        ensures other { IfErr result
+            (λ e. ¬ IsDiskError e → D.faults disk.new ≡ D.faults disk.old) }
         ensures count { OnOk result (D.faults disk.new ≡ D.faults disk.old) }
     {
         begin(alloc, disk, self.arch.as_slice(), self.start.as_slice())
@@ -75,10 +83,14 @@ impl GoodPlan {
     /// their end. A run that was stopped is gone on with by another one.
     pub fn go_on<D: Disk>(&self, alloc: Global, disk: &mut D) -> Result<CarriedOut, RunError<'_>>
         ensures honest { D.honest disk.new ↔ D.honest disk.old }
-        ensures run { D.honest disk.old → IsRunOn self.now.arch self.now.start self.now.records (D.facts disk.old) result (D.facts disk.new) }
+        ensures run { D.honest disk.old
+            → IsRunOn self.now.arch self.now.start self.now.records (D.facts disk.old) result
+            (D.facts disk.new) }
         ensures done { IfOk result (IsCarriedOut self.now) }
-        ensures failed { IfErr result (λ e. IsDiskFault e → D.faults disk.new ≡ min (D.faults disk.old + 1) (2 ^ 64 - 1)) }
-        ensures other { IfErr result (λ e. ¬ IsDiskFault e → D.faults disk.new ≡ D.faults disk.old) }
+        ensures failed { IfErr result
+            (λ e. IsDiskFault e → D.faults disk.new ≡ min (D.faults disk.old + 1) (2 ^ 64 - 1)) }
+        ensures other { IfErr result
+            (λ e. ¬ IsDiskFault e → D.faults disk.new ≡ D.faults disk.old) }
         ensures count { OnOk result (D.faults disk.new ≡ D.faults disk.old) }
     {
         let texts = match lend_texts(alloc, self.texts.as_slice()) {

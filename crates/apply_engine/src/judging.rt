@@ -21,15 +21,21 @@ pub(crate) struct Judgement<'i, 'a> {
 }
 
 /// The plan of a shelf, judged by its request.
-pub(crate) fn judged<'i, 'a, S: Shelf>(
+pub(crate) fn judge_plan<'i, 'a, S: Shelf>(
     alloc: Global,
     shelf: &mut S,
     before: &Before<'_, '_, '_, '_, '_, '_, 'i, 'a>,
 ) -> Result<Judgement<'i, 'a>, Refusal>
-    ensures answer { (at : Shelved) → S.found shelf.old ≡ Some at → AreReadAs (texts_of before.now.settings.now at) before.now
-        → IfOk result (λ judged. IsAnswerOf (texts_of before.now.settings.now at) at.judged judged.universe judged.steps.items judged.verdict) }
-    ensures refused { (at : Shelved) → S.found shelf.old ≡ Some at → AreReadAs (texts_of before.now.settings.now at) before.now
-        → IfErr result (λ refused. IsFirstRefusal (texts_of before.now.settings.now at) at.judged refused) }
+    ensures answer { (at : Shelved) → S.known_texts shelf.old ≡ Some at
+        → AreReadAs (texts_of before.now.settings.now at) before.now
+        → IfOk result
+        (λ judgement.
+        IsAnswerOf (texts_of before.now.settings.now at) at.judged judgement.universe
+        judgement.steps.items judgement.verdict) }
+    ensures refused { (at : Shelved) → S.known_texts shelf.old ≡ Some at
+        → AreReadAs (texts_of before.now.settings.now at) before.now
+        → IfErr result
+        (λ refused. IsFirstRefusal (texts_of before.now.settings.now at) at.judged refused) }
     ensures read { IsReadBy S.Shelf shelf.old result shelf.new }
 {
     let Requested { universe, .. } = read_requested(alloc, shelf, before)?;

@@ -5,7 +5,7 @@ ghost use Rattle.apply_engine.specs.Prepared.{IsForArch, IsSaidOfPrepared};
 ghost use mathlib.Core.Logic.{inl};
 
 use crate::good_plan::GoodPlan;
-use crate::judging::{Judgement, judged};
+use crate::judging::{Judgement, judge_plan};
 use crate::readying::made_ready;
 use inputs::{Before, Question, Refusal, Shelf};
 use rules::Verdict;
@@ -56,7 +56,7 @@ impl Question for Prepare {
             universe,
             steps,
             verdict,
-        } = judged(alloc, shelf, before)?;
+        } = judge_plan(alloc, shelf, before)?;
         if !is_yes(&verdict) {
             return Ok(Prepared::Judged(verdict));
         }

@@ -27,14 +27,15 @@ fn start_text(alloc: Global, status_file: &StatusFile<'_>) -> Result<Vec<u8>, Al
 }
 
 // The names, each with bytes of its own.
-fn owned(alloc: Global, names: &[&[u8]]) -> Result<Vec<Vec<u8>>, AllocError>
-    ensures { IfOk result (λ owned. map (λ name. name.items) owned.items ≡ map (λ name. name.now) names.now) }
+fn copies(alloc: Global, names: &[&[u8]]) -> Result<Vec<Vec<u8>>, AllocError>
+    ensures { IfOk result
+        (λ copies. map (λ name. name.items) copies.items ≡ map (λ name. name.now) names.now) }
 {
-    let mut owned = Vec::new(alloc);
+    let mut copies = Vec::new(alloc);
     for name in names {
-        owned.push(name.to_vec(alloc)?)?;
+        copies.push(name.to_vec(alloc)?)?;
     }
-    Ok(owned)
+    Ok(copies)
 }
 
 /// What a journal takes of these steps, which were judged good.
@@ -45,10 +46,12 @@ pub(crate) fn made_ready<S: Shelf>(
     universe: &Universe<'_, '_>,
     steps: Vec<Step>,
 ) -> Result<GoodPlan, Refusal>
-    ensures ready { (at : Shelved) → S.found shelf.old ≡ Some at → AreReadAs (texts_of before.now.settings.now at) before.now
+    ensures ready { (at : Shelved) → S.known_texts shelf.old ≡ Some at
+        → AreReadAs (texts_of before.now.settings.now at) before.now
         → IsAnswerOf (texts_of before.now.settings.now at) at.judged universe.now steps.items Yes
         → IfOk result (IsReady (texts_of before.now.settings.now at) at.judged) }
-    ensures refused { (at : Shelved) → S.found shelf.old ≡ Some at → AreReadAs (texts_of before.now.settings.now at) before.now
+    ensures refused { (at : Shelved) → S.known_texts shelf.old ≡ Some at
+        → AreReadAs (texts_of before.now.settings.now at) before.now
         → IsAnswerOf (texts_of before.now.settings.now at) at.judged universe.now steps.items Yes
         → IfErr result (IsApplyRefusal (texts_of before.now.settings.now at) at.judged) }
     ensures arch { IfOk result (λ plan. plan.arch ≡ before.now.settings.now.arch.now) }
@@ -57,7 +60,7 @@ pub(crate) fn made_ready<S: Shelf>(
     let arch = before.settings.arch;
     let texts = fetch_texts(alloc, shelf, arch, before.files, universe, steps.as_slice())?;
     let start = start_text(alloc, before.status_file)?;
-    let indices = owned(alloc, before.files)?;
+    let indices = copies(alloc, before.files)?;
     let arch = arch.to_vec(alloc)?;
     Ok(GoodPlan {
         arch,

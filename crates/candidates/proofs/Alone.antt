@@ -31,7 +31,7 @@ use mathlib.Core.Logic.{inl, inr}
 
 -- the version of the name is the one that one of these records stands in
 abbrev pub StandsAmong : List Record → List ℕ → List ℕ → Type 0
-StandsAmong left name version = Any (λ found. (found.name ≡ name) × IsSome (standing_as version found)) left
+StandsAmong left name version = Any (λ entry. (entry.name ≡ name) × IsSome (standing_as version entry)) left
 
 -- the offers are of what stands and has no place, but for these records
 pub record AreAlone (prefs : Preferences) (db : List Record) (places : List Place) (left : List Record) (offers : List Offer) : Type 0 where
@@ -51,7 +51,7 @@ AreAlone-start prefs db places = record {
   covered = λ name version alone.
       let text = some_text (standing_version db name version) alone.0 in
       let there = standing_version-is db name version text.0 text.1 in
-      inl (Any-intro (λ (found : Record). (found.name ≡ name) × IsSome (standing_as version found)) db there.0
+      inl (Any-intro (λ (entry : Record). (entry.name ≡ name) × IsSome (standing_as version entry)) db there.0
       (find-some (is_named name) db there.0 there.1).0
       (there.2, subst IsSome (sym (standing_as-from version there.0 there.3 there.4)) refl));
 }
@@ -62,62 +62,62 @@ pub AreRated-alone : (prefs : Preferences) (db : List Record) (places : List Pla
 AreRated-alone prefs db places offers are = record {
   drawn = are.drawn;
   covered = λ name version alone. elim (are.covered name version alone) [
-    | inl some ↦ Any-elim (λ (found : Record). (found.name ≡ name) × IsSome (standing_as version found)) [] (Any (IsFor name version) offers)
-        (λ found within is. absurd (Contains-nil found within)) some
+    | inl some ↦ Any-elim (λ (entry : Record). (entry.name ≡ name) × IsSome (standing_as version entry)) [] (Any (IsFor name version) offers)
+        (λ entry within is. absurd (Contains-nil entry within)) some
     | inr there ↦ there
   ];
 }
 
 -- the stanza of a version that has no place isn't in order
-no_stanza : (places : List Place) (ordered : List IndexPackage) → IsOrdered (stanzas_of places) ordered → (name version : List ℕ) (found : Record)
-    → found.name ≡ name → SameVersion found.version version → stanza_of (stanzas_of places) name version ≡ None
-    → stanza_of ordered found.name found.version ≡ None
-no_stanza places ordered is name version found named same none = is.earliest found.name found.version
-    ∙ ap (λ (n : List ℕ). stanza_of (stanzas_of places) n found.version) named
-    ∙ stanza_of-same (stanzas_of places) name found.version version same ∙ none
+no_stanza : (places : List Place) (ordered : List IndexPackage) → IsOrdered (stanzas_of places) ordered → (name version : List ℕ) (entry : Record)
+    → entry.name ≡ name → SameVersion entry.version version → stanza_of (stanzas_of places) name version ≡ None
+    → stanza_of ordered entry.name entry.version ≡ None
+no_stanza places ordered is name version entry named same none = is.earliest entry.name entry.version
+    ∙ ap (λ (n : List ℕ). stanza_of (stanzas_of places) n entry.version) named
+    ∙ stanza_of-same (stanzas_of places) name entry.version version same ∙ none
 
 -- what stands alone
-standing_alone-from : (ordered : List IndexPackage) (found : Record) → stands found ≡ true → stanza_of ordered found.name found.version ≡ None
-    → standing_alone ordered found ≡ Some found.version
-standing_alone-from ordered found stood none = ap (λ (b : Bool). if b then Some found.version else None)
-    (and_from (stands found) (is_none (stanza_of ordered found.name found.version)) stood (ap is_none none))
+standing_alone-from : (ordered : List IndexPackage) (entry : Record) → stands entry ≡ true → stanza_of ordered entry.name entry.version ≡ None
+    → standing_alone ordered entry ≡ Some entry.version
+standing_alone-from ordered entry stood none = ap (λ (b : Bool). if b then Some entry.version else None)
+    (and_from (stands entry) (is_none (stanza_of ordered entry.name entry.version)) stood (ap is_none none))
 
-standing_alone-is : (ordered : List IndexPackage) (found : Record) (text : List ℕ) → standing_alone ordered found ≡ Some text
-    → (stands found ≡ true) × (stanza_of ordered found.name found.version ≡ None) × (found.version ≡ text)
-standing_alone-is ordered found text is = at (stands found && is_none (stanza_of ordered found.name found.version)) refl is
+standing_alone-is : (ordered : List IndexPackage) (entry : Record) (text : List ℕ) → standing_alone ordered entry ≡ Some text
+    → (stands entry ≡ true) × (stanza_of ordered entry.name entry.version ≡ None) × (entry.version ≡ text)
+standing_alone-is ordered entry text is = at (stands entry && is_none (stanza_of ordered entry.name entry.version)) refl is
   where
     nothing : (o : Option IndexPackage) → is_none o ≡ true → o ≡ None
     nothing None none = refl
     nothing (Some l) none = absurd (let e : false ≡ true = none in cc)
 
-    at : (b : Bool) → (stands found && is_none (stanza_of ordered found.name found.version)) ≡ b
-        → (if b then Some found.version else None) ≡ Some text
-        → (stands found ≡ true) × (stanza_of ordered found.name found.version ≡ None) × (found.version ≡ text)
+    at : (b : Bool) → (stands entry && is_none (stanza_of ordered entry.name entry.version)) ≡ b
+        → (if b then Some entry.version else None) ≡ Some text
+        → (stands entry ≡ true) × (stanza_of ordered entry.name entry.version ≡ None) × (entry.version ≡ text)
     at true both whole =
-        let parts = and_parts (stands found) (is_none (stanza_of ordered found.name found.version)) both in
-        (parts.0, nothing (stanza_of ordered found.name found.version) parts.1, same_Some found.version text whole)
+        let parts = and_parts (stands entry) (is_none (stanza_of ordered entry.name entry.version)) both in
+        (parts.0, nothing (stanza_of ordered entry.name entry.version) parts.1, same_Some entry.version text whole)
     at false both whole = absurd (let e : None ≡ Some text = whole in cc)
 
 -- a record in order is the one of its name
-found_known : (known : List Record) → IsStrictlySortedBy record_cmp known → (found : Record) → Contains known found
-    → find (is_named found.name) known ≡ Some found
-found_known known ascending found within =
-    let own : is_named found.name found ≡ true = bytes_eq-same found.name found.name refl in
-    let first = find-exists (is_named found.name) known found within own in
-    let there = find-some (is_named found.name) known first.0 first.1 in
-    first.1 ∙ ap Some (one_record known found.name ascending first.0 found there.0 within there.1 own)
+found_known : (known : List Record) → IsStrictlySortedBy record_cmp known → (entry : Record) → Contains known entry
+    → find (is_named entry.name) known ≡ Some entry
+found_known known ascending entry within =
+    let own : is_named entry.name entry ≡ true = bytes_eq-same entry.name entry.name refl in
+    let first = find-exists (is_named entry.name) known entry within own in
+    let there = find-some (is_named entry.name) known first.0 first.1 in
+    first.1 ∙ ap Some (one_record known entry.name ascending first.0 entry there.0 within there.1 own)
 
 module _ (prefs : Preferences) (known : List Record) (places : List Place) (ordered : List IndexPackage)
     (ascending : IsStrictlySortedBy record_cmp known) (is : IsOrdered (stanzas_of places) ordered) where
   -- a record that is passed over
-  pub AreAlone-skip : (found : Record) (rest : List Record) (offers : List Offer) → AreAlone prefs known places (found ∷ rest) offers
-      → standing_alone ordered found ≡ None → AreAlone prefs known places rest offers
-  AreAlone-skip found rest offers are none = record {
+  pub AreAlone-skip : (entry : Record) (rest : List Record) (offers : List Offer) → AreAlone prefs known places (entry ∷ rest) offers
+      → standing_alone ordered entry ≡ None → AreAlone prefs known places rest offers
+  AreAlone-skip entry rest offers are none = record {
     drawn = are.drawn;
     covered = λ name version alone. elim (are.covered name version alone) [
-      | inl some ↦ Any-elim (λ (r : Record). (r.name ≡ name) × IsSome (standing_as version r)) (found ∷ rest)
+      | inl some ↦ Any-elim (λ (r : Record). (r.name ≡ name) × IsSome (standing_as version r)) (entry ∷ rest)
           (StandsAmong rest name version ⊎ Any (IsFor name version) offers)
-          (λ other within has. elim (Contains-cons found rest other within) [
+          (λ other within has. elim (Contains-cons entry rest other within) [
             | inl same ↦ absurd (passed name version alone (subst (λ (r : Record). (r.name ≡ name) × IsSome (standing_as version r)) (sym same) has))
             | inr later ↦ inl (Any-intro (λ (r : Record). (r.name ≡ name) × IsSome (standing_as version r)) rest other later has)
           ]) some
@@ -125,26 +125,26 @@ module _ (prefs : Preferences) (known : List Record) (places : List Place) (orde
     ];
   }
     where
-      passed : (name version : List ℕ) → StandsAlone known places name version → (found.name ≡ name) × IsSome (standing_as version found) → ⊥
+      passed : (name version : List ℕ) → StandsAlone known places name version → (entry.name ≡ name) × IsSome (standing_as version entry) → ⊥
       passed name version alone has =
-          let text = some_text (standing_as version found) has.1 in
-          let stood = standing_as-is version found text.0 text.1 in
-          let e : None ≡ Some found.version = sym none ∙ standing_alone-from ordered found stood.0
-          (no_stanza places ordered is name version found has.0 stood.1 alone.1) in cc
+          let text = some_text (standing_as version entry) has.1 in
+          let stood = standing_as-is version entry text.0 text.1 in
+          let e : None ≡ Some entry.version = sym none ∙ standing_alone-from ordered entry stood.0
+          (no_stanza places ordered is name version entry has.0 stood.1 alone.1) in cc
 
   -- the offer of a record that stands alone is rated
-  IsRated-alone : (found : Record) → Contains known found → (version : List ℕ) → standing_alone ordered found ≡ Some version
-      → (offer : Offer) → IsFrom prefs found.name version (status_origin ∷ []) offer → IsRated prefs known places offer
-  IsRated-alone found within version alone offer from =
-      let own = standing_alone-is ordered found version alone in
-      let same : offer.version ≡ found.version = from.version_is ∙ sym own.2 in
-      let stood : standing_version known offer.name offer.version ≡ Some found.version =
-      ap (λ (n : List ℕ). standing_version known n offer.version) from.name_is ∙ ap (standing_version known found.name) same
-      ∙ standing_version-from known found.name found.version found (found_known known ascending found within) own.0 (SameVersion-refl found.version) in
+  IsRated-alone : (entry : Record) → Contains known entry → (version : List ℕ) → standing_alone ordered entry ≡ Some version
+      → (offer : Offer) → IsFrom prefs entry.name version (status_origin ∷ []) offer → IsRated prefs known places offer
+  IsRated-alone entry within version alone offer from =
+      let own = standing_alone-is ordered entry version alone in
+      let same : offer.version ≡ entry.version = from.version_is ∙ sym own.2 in
+      let stood : standing_version known offer.name offer.version ≡ Some entry.version =
+      ap (λ (n : List ℕ). standing_version known n offer.version) from.name_is ∙ ap (standing_version known entry.name) same
+      ∙ standing_version-from known entry.name entry.version entry (found_known known ascending entry within) own.0 (SameVersion-refl entry.version) in
       let empty : with_version offer.name offer.version places ≡ [] =
       ap (λ (n : List ℕ). with_version n offer.version places) from.name_is
-      ∙ ap (λ (v : List ℕ). with_version found.name v places) same
-      ∙ no_places places found.name found.version (sym (is.earliest found.name found.version) ∙ own.1) in
+      ∙ ap (λ (v : List ℕ). with_version entry.name v places) same
+      ∙ no_places places entry.name entry.version (sym (is.earliest entry.name entry.version) ∙ own.1) in
       record {
         kept = ap (λ (o : Option (List ℕ)). option_or o (option_map (λ (l : IndexPackage). l.pkg.version) (stanza_of (stanzas_of places) offer.name offer.version))) stood
             ∙ ap Some (sym same);
@@ -153,23 +153,23 @@ module _ (prefs : Preferences) (known : List Record) (places : List Place) (orde
             (subst (λ (o : Option (List ℕ)). HasPriorityAmong prefs.preferences prefs.target offer.name offer.version
             (origins_with (is_some o) []) offer.priority) (sym stood)
             (subst (λ (n : List ℕ). HasPriorityAmong prefs.preferences prefs.target n offer.version (status_origin ∷ []) offer.priority) (sym from.name_is)
-            (subst (λ (v : List ℕ). HasPriorityAmong prefs.preferences prefs.target found.name v (status_origin ∷ []) offer.priority) (sym from.version_is)
+            (subst (λ (v : List ℕ). HasPriorityAmong prefs.preferences prefs.target entry.name v (status_origin ∷ []) offer.priority) (sym from.version_is)
             from.given)));
       }
 
   -- a record that is offered
-  pub AreAlone-push : (found : Record) (rest : List Record) (offers : List Offer) → AreAlone prefs known places (found ∷ rest) offers
-      → Contains known found → (version : List ℕ) → standing_alone ordered found ≡ Some version → (offer : Offer)
-      → IsFrom prefs found.name version (status_origin ∷ []) offer → AreAlone prefs known places rest (offers ++ offer ∷ [])
-  AreAlone-push found rest offers are here version alone offer from = record {
+  pub AreAlone-push : (entry : Record) (rest : List Record) (offers : List Offer) → AreAlone prefs known places (entry ∷ rest) offers
+      → Contains known entry → (version : List ℕ) → standing_alone ordered entry ≡ Some version → (offer : Offer)
+      → IsFrom prefs entry.name version (status_origin ∷ []) offer → AreAlone prefs known places rest (offers ++ offer ∷ [])
+  AreAlone-push entry rest offers are here version alone offer from = record {
     drawn = λ other within. elim (Contains-append_cases offers (offer ∷ []) other within) [
       | inl long ↦ are.drawn other long
-      | inr added ↦ subst (IsRated prefs known places) (one_element offer other added) (IsRated-alone found here version alone offer from)
+      | inr added ↦ subst (IsRated prefs known places) (one_element offer other added) (IsRated-alone entry here version alone offer from)
     ];
     covered = λ name wanted stands_so. elim (are.covered name wanted stands_so) [
-      | inl some ↦ Any-elim (λ (r : Record). (r.name ≡ name) × IsSome (standing_as wanted r)) (found ∷ rest)
+      | inl some ↦ Any-elim (λ (r : Record). (r.name ≡ name) × IsSome (standing_as wanted r)) (entry ∷ rest)
           (StandsAmong rest name wanted ⊎ Any (IsFor name wanted) (offers ++ offer ∷ []))
-          (λ other within has. elim (Contains-cons found rest other within) [
+          (λ other within has. elim (Contains-cons entry rest other within) [
             | inl same ↦ inr (Any-append_right (IsFor name wanted) offers (offer ∷ [])
                 (Any-intro (IsFor name wanted) (offer ∷ []) offer (Contains-head offer [])
                 (offered name wanted (subst (λ (r : Record). (r.name ≡ name) × IsSome (standing_as wanted r)) (sym same) has))))
@@ -179,11 +179,11 @@ module _ (prefs : Preferences) (known : List Record) (places : List Place) (orde
     ];
   }
     where
-      offered : (name wanted : List ℕ) → (found.name ≡ name) × IsSome (standing_as wanted found) → IsFor name wanted offer
+      offered : (name wanted : List ℕ) → (entry.name ≡ name) × IsSome (standing_as wanted entry) → IsFor name wanted offer
       offered name wanted has =
-          let text = some_text (standing_as wanted found) has.1 in
-          let stood = standing_as-is wanted found text.0 text.1 in
-          let own = standing_alone-is ordered found version alone in (
+          let text = some_text (standing_as wanted entry) has.1 in
+          let stood = standing_as-is wanted entry text.0 text.1 in
+          let own = standing_alone-is ordered entry version alone in (
             from.name_is ∙ has.0,
             subst (λ (v : List ℕ). SameVersion v wanted) (own.2 ∙ sym from.version_is) stood.1,
           )
@@ -201,17 +201,17 @@ AreRated-both prefs db places listed alone of_places of_alone = record {
 }
   where
     at : (name version : List ℕ) (o : Option IndexPackage) → stanza_of (stanzas_of places) name version ≡ o
-        → IsSome (option_or (standing_version db name version) (option_map (λ (found : IndexPackage). found.pkg.version) (stanza_of (stanzas_of places) name version)))
+        → IsSome (option_or (standing_version db name version) (option_map (λ (stanza : IndexPackage). stanza.pkg.version) (stanza_of (stanzas_of places) name version)))
         → Any (IsFor name version) (listed ++ alone)
-    at name version (Some found) some kept =
-        let there = find-some (λ (other : IndexPackage). is_of name version other.pkg) (stanzas_of places) found some in
-        let from = Contains-map (λ (place : Place). place.listed) places found there.0 in
+    at name version (Some stanza) some kept =
+        let there = find-some (λ (other : IndexPackage). is_of name version other.pkg) (stanzas_of places) stanza some in
+        let from = Contains-map (λ (place : Place). place.listed) places stanza there.0 in
         Any-append_left (IsFor name version) listed alone (of_places.covered name version
         (Any-intro (λ (place : Place). IsOf name version place.listed.pkg) places from.0 from.1
-        (subst (λ (l : IndexPackage). IsOf name version l.pkg) (sym from.2) (is_of-parts name version found.pkg there.1))))
+        (subst (λ (l : IndexPackage). IsOf name version l.pkg) (sym from.2) (is_of-parts name version stanza.pkg there.1))))
     at name version None none kept = Any-append_right (IsFor name version) listed alone (of_alone.covered name version (
       or_none (standing_version db name version)
-          (subst (λ (o : Option IndexPackage). IsSome (option_or (standing_version db name version) (option_map (λ (found : IndexPackage). found.pkg.version) o))) none kept),
+          (subst (λ (o : Option IndexPackage). IsSome (option_or (standing_version db name version) (option_map (λ (stanza : IndexPackage). stanza.pkg.version) o))) none kept),
       none,
     ))
       where

@@ -26,7 +26,7 @@ use mathlib.Core.Logic.{inl, inr}
 
 -- the version that stands is that of the record that stands in it
 pub standing_version-record : (db : List Record) → HasDistinctNames db → (name version : List ℕ)
-    → standing_version db name version ≡ option_map (λ (found : Record). found.version) (standing_record db name version)
+    → standing_version db name version ≡ option_map (λ (entry : Record). entry.version) (standing_record db name version)
 standing_version-record db distinct name version = at (standing_record db name version) refl
   where
     none_at : (o : Option (List ℕ)) → standing_version db name version ≡ o → standing_record db name version ≡ None → o ≡ None
@@ -38,25 +38,25 @@ standing_version-record db distinct name version = at (standing_record db name v
         absurd (let e' : None ≡ Some there.0 = e in cc)
 
     at : (o : Option Record) → standing_record db name version ≡ o
-        → standing_version db name version ≡ option_map (λ (found : Record). found.version) o
+        → standing_version db name version ≡ option_map (λ (entry : Record). entry.version) o
     at None none = none_at (standing_version db name version) refl none
-    at (Some found) some =
-        let there = standing_record-is db name version found some in
-        standing_version-from db name version found (found_record db distinct name found there.0 there.1) there.2 there.3
+    at (Some entry) some =
+        let there = standing_record-is db name version entry some in
+        standing_version-from db name version entry (found_record db distinct name entry there.0 there.1) there.2 there.3
 
 -- what is kept of a version is the text of the package that counts
 pub kept_version-counting : (db : List Record) (indices : List Index) (prefs : Preferences) (request : Request) → HasDistinctNames db
     → (name version : List ℕ) → kept_version db (all_listed indices) name version
     ≡ option_map (λ (pkg : Pkg). pkg.version) (counting_package (inputs_of db indices prefs request) name version)
 kept_version-counting db indices prefs request distinct name version =
-    ap (λ (o : Option (List ℕ)). option_or o (option_map (λ (found : IndexPackage). found.pkg.version) (stanza_of (all_listed indices) name version)))
+    ap (λ (o : Option (List ℕ)). option_or o (option_map (λ (item : IndexPackage). item.pkg.version) (stanza_of (all_listed indices) name version)))
     (standing_version-record db distinct name version)
     ∙ at (standing_record db name version) (index_package indices name version)
   where
     at : (o : Option Record) (l : Option IndexPackage)
-        → option_or (option_map (λ (found : Record). found.version) o) (option_map (λ (found : IndexPackage). found.pkg.version) l)
+        → option_or (option_map (λ (item : Record). item.version) o) (option_map (λ (item : IndexPackage). item.pkg.version) l)
         ≡ option_map (λ (pkg : Pkg). pkg.version) (option_or (option_map pkg_of o) (option_map (λ (listed : IndexPackage). listed.pkg) l))
-    at (Some found) l = refl
+    at (Some item) l = refl
     at None (Some listed) = refl
     at None None = refl
 
@@ -70,24 +70,24 @@ stanzas_of-places (index ∷ rest) =
   where
     again : (release : _) (listed : List IndexPackage) → map (λ (place : Place). place.listed) (map (place_at release) listed) ≡ listed
     again release [] = refl
-    again release (found ∷ more) = ap (λ (xs : List IndexPackage). found ∷ xs) (again release more)
+    again release (stanza ∷ more) = ap (λ (xs : List IndexPackage). stanza ∷ xs) (again release more)
 
 -- a stanza of an index is a place
-place_within : (indices : List Index) (index : Index) (found : IndexPackage) → Contains indices index → Contains index.listed found
-    → Contains (places_of indices) (place_at index.release found)
-place_within [] index found there within = absurd (Contains-nil index there)
-place_within (first ∷ rest) index found there within = elim (Contains-cons first rest index there) [
-  | inl same ↦ subst (λ (i : Index). Contains (places_of (first ∷ rest)) (place_at i.release found)) same
-      (Contains-append_left (places_in first) (places_of rest) (place_at first.release found)
-      (Contains-map_intro (place_at first.release) first.listed found
-      (subst (λ (i : Index). Contains i.listed found) (sym same) within)))
-  | inr later ↦ Contains-append_right (places_in first) (places_of rest) (place_at index.release found)
-      (place_within rest index found later within)
+place_within : (indices : List Index) (index : Index) (stanza : IndexPackage) → Contains indices index → Contains index.listed stanza
+    → Contains (places_of indices) (place_at index.release stanza)
+place_within [] index stanza there within = absurd (Contains-nil index there)
+place_within (first ∷ rest) index stanza there within = elim (Contains-cons first rest index there) [
+  | inl same ↦ subst (λ (i : Index). Contains (places_of (first ∷ rest)) (place_at i.release stanza)) same
+      (Contains-append_left (places_in first) (places_of rest) (place_at first.release stanza)
+      (Contains-map_intro (place_at first.release) first.listed stanza
+      (subst (λ (i : Index). Contains i.listed stanza) (sym same) within)))
+  | inr later ↦ Contains-append_right (places_in first) (places_of rest) (place_at index.release stanza)
+      (place_within rest index stanza later within)
 ]
 
 -- and a place is a stanza of an index
 place_index : (indices : List Index) (place : Place) → Contains (places_of indices) place
-    → (index : Index) × (found : IndexPackage) × Contains indices index × Contains index.listed found × (place_at index.release found ≡ place)
+    → (index : Index) × (stanza : IndexPackage) × Contains indices index × Contains index.listed stanza × (place_at index.release stanza ≡ place)
 place_index [] place within = absurd (Contains-nil place within)
 place_index (first ∷ rest) place within =
     elim (Contains-append_cases (places_in first) (places_of rest) place within) [
@@ -161,9 +161,9 @@ origins_of-same db indices prefs request distinct name version = record {
       ];
 }
   where
-    alike : (o : Option Record) → is_some (option_map (λ (found : Record). found.version) o) ≡ is_some o
+    alike : (o : Option Record) → is_some (option_map (λ (entry : Record). entry.version) o) ≡ is_some o
     alike None = refl
-    alike (Some found) = refl
+    alike (Some entry) = refl
 
     stood : is_some (standing_version db name version) ≡ is_some (standing_record db name version)
     stood = ap is_some (standing_version-record db distinct name version) ∙ alike (standing_record db name version)

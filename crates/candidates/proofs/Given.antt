@@ -36,9 +36,9 @@ module _ (prefs : Preferences) (db known : List Record) (places sorted : List Pl
     (are : AreSorted places sorted) where
   kept_same : (name version : List ℕ) → kept_version known (stanzas_of sorted) name version ≡ kept_version db (stanzas_of places) name version
   kept_same name version =
-      ap (λ (o : Option (List ℕ)). option_or o (option_map (λ (found : IndexPackage). found.pkg.version) (stanza_of (stanzas_of sorted) name version)))
+      ap (λ (o : Option (List ℕ)). option_or o (option_map (λ (stanza : IndexPackage). stanza.pkg.version) (stanza_of (stanzas_of sorted) name version)))
       (standing_version-known db known named name version)
-      ∙ ap (λ (o : Option IndexPackage). option_or (standing_version db name version) (option_map (λ (found : IndexPackage). found.pkg.version) o))
+      ∙ ap (λ (o : Option IndexPackage). option_or (standing_version db name version) (option_map (λ (stanza : IndexPackage). stanza.pkg.version) o))
       (stanza_of-sorted places sorted are name version)
 
   origins_same : (name version : List ℕ) → origins_among known sorted name version ≡ origins_among db places name version

@@ -92,7 +92,7 @@ IsRated-run prefs db places first more offer whole of =
     let version : List ℕ = first.listed.pkg.version in
     let standing : Option (List ℕ) = standing_version db name version in
     let same : SameVersion offer.version version = kept_same standing db name version offer.version refl of.kept in
-    let found : stanza_of (stanzas_of places) name version ≡ Some first.listed =
+    let stanza_is : stanza_of (stanzas_of places) name version ≡ Some first.listed =
     stanza_of-places places name version ∙ ap (λ (xs : List Place). option_map (λ (place : Place). place.listed) (first_of_all xs)) whole in
     let stood : standing_version db offer.name offer.version ≡ standing =
     ap (λ (n : List ℕ). standing_version db n offer.version) of.name_is ∙ standing_version-same db name offer.version version same in
@@ -101,7 +101,7 @@ IsRated-run prefs db places first more offer whole of =
       record {
         kept = ap (λ (n : List ℕ). kept_version db (stanzas_of places) n offer.version) of.name_is
             ∙ kept_version-same db (stanzas_of places) name offer.version version same
-            ∙ ap (λ (o : Option IndexPackage). option_or standing (option_map (λ (l : IndexPackage). l.pkg.version) o)) found
+            ∙ ap (λ (o : Option IndexPackage). option_or standing (option_map (λ (l : IndexPackage). l.pkg.version) o)) stanza_is
             ∙ sym of.kept;
         given = subst (λ (xs : List Place). HasPriorityAmong prefs.preferences prefs.target offer.name offer.version
             (origins_with (is_some (standing_version db offer.name offer.version)) xs) offer.priority) (sym run)
@@ -196,12 +196,12 @@ pub IsEligibleOfRun-from : (prefs : Preferences) (db : List Record) (first : Pla
     (standing : Option (List ℕ)) (offer : Offer) (chosen : Option Offer) → own ≡ find (is_named first.listed.pkg.name) db
     → standing ≡ option_and_then (standing_as first.listed.pkg.version) own → IsOfRun prefs standing first run offer
     → chosen ≡ (if is_eligible_beside own offer then Some offer else None) → IsEligibleOfRun prefs db first run chosen
-IsEligibleOfRun-from prefs db first run own standing offer chosen found stood of kept = record {
+IsEligibleOfRun-from prefs db first run own standing offer chosen entry_is stood of kept = record {
   offer = offer;
   of = subst (λ (o : Option (List ℕ)). IsOfRun prefs o first run offer)
-      (stood ∙ ap (option_and_then (standing_as first.listed.pkg.version)) found) of;
+      (stood ∙ ap (option_and_then (standing_as first.listed.pkg.version)) entry_is) of;
   kept = kept ∙ ap (λ (r : Option Record). if is_eligible_beside r offer then Some offer else None)
-      (found ∙ ap (λ (n : List ℕ). find (is_named n) db) (sym of.name_is));
+      (entry_is ∙ ap (λ (n : List ℕ). find (is_named n) db) (sym of.name_is));
 }
 
 -- the offers are those that may be chosen of the places that are behind

@@ -20,7 +20,7 @@ use Rattle.rules.specs.Version.{version_cmp}
 use Rattle.universe_parts.specs.FindLaws.{not_back}
 use Rattle.universe_parts.specs.PairLaws.{is_of-parts, of_itself}
 use Rattle.candidates.specs.Least.{least_of, lesser}
-use Rattle.candidates.specs.Names.{AreNames, InOrder, IsAmong, IsBefore, IsSplit, Names, OfName, part_of}
+use Rattle.candidates.specs.Names.{AreNames, InOrder, IsAmong, IsBefore, IsSplit, NameTable, OfName, part_of}
 use Rattle.candidates.specs.Place.{AreSorted, Place, has_place_name, place_cmp, places_of, stanzas_of}
 use Rattle.candidates.specs.Recorded.{IsByName, record_cmp}
 use Rattle.candidates.specs.RecordedLaws.{record_cmp_total}
@@ -35,13 +35,13 @@ use mathlib.Core.Logic.{inl, inr}
 
 -- what has names of a kind: the records, the places and the stanzas
 abbrev pub kept_records : (List ℕ → Bool) → List Record → List Record
-kept_records test known = filter (λ found. test found.name) known
+kept_records test known = filter (λ item. test item.name) known
 
 abbrev pub kept_places : (List ℕ → Bool) → List Place → List Place
 kept_places test places = filter (λ place. test place.listed.pkg.name) places
 
 abbrev pub kept_stanzas : (List ℕ → Bool) → List IndexPackage → List IndexPackage
-kept_stanzas test listed = filter (λ found. test found.pkg.name) listed
+kept_stanzas test listed = filter (λ item. test item.pkg.name) listed
 
 -- the stanzas of the places that have names of a kind
 stanzas_of-kept : (test : List ℕ → Bool) (places : List Place) → stanzas_of (kept_places test places) ≡ kept_stanzas test (stanzas_of places)
@@ -58,12 +58,12 @@ stanzas_of-kept test (place ∷ places) = at (test place.listed.pkg.name) (stanz
 IsOrdered-kept : (test : List ℕ → Bool) (listed ordered : List IndexPackage) → IsOrdered listed ordered
     → IsOrdered (kept_stanzas test listed) (kept_stanzas test ordered)
 IsOrdered-kept test listed ordered is = record {
-  ascending = IsStrictlySortedBy-filter listed_cmp (λ found. test found.pkg.name) ordered is.ascending;
+  ascending = IsStrictlySortedBy-filter listed_cmp (λ item. test item.pkg.name) ordered is.ascending;
   earliest = λ name version.
-      let p : IndexPackage → Bool = λ found. is_of name version found.pkg in
-      let q : IndexPackage → Bool = λ found. test found.pkg.name in
-      let same : (found : IndexPackage) → p found ≡ true → q found ≡ test name =
-      λ found passes. ap test (is_of-parts name version found.pkg passes).0 in
+      let p : IndexPackage → Bool = λ item. is_of name version item.pkg in
+      let q : IndexPackage → Bool = λ item. test item.pkg.name in
+      let same : (item : IndexPackage) → p item ≡ true → q item ≡ test name =
+      λ item passes. ap test (is_of-parts name version item.pkg passes).0 in
       find-decided p q (test name) same ordered
       ∙ ap (λ (o : Option IndexPackage). cond (test name) o None) (is.earliest name version)
       ∙ sym (find-decided p q (test name) same listed);
@@ -78,14 +78,14 @@ sorted_kept test places up = IsSortedBy-filter (λ x y. is_lt (place_cmp x y)) (
 pub InOrder-kept : (test : List ℕ → Bool) (known : List Record) (places : List Place) (ordered : List IndexPackage)
     → InOrder known places ordered → InOrder (kept_records test known) (kept_places test places) (kept_stanzas test ordered)
 InOrder-kept test known places ordered are = record {
-  records = IsStrictlySortedBy-filter record_cmp (λ found. test found.name) known are.records;
+  records = IsStrictlySortedBy-filter record_cmp (λ item. test item.name) known are.records;
   stanzas = sorted_kept test places are.stanzas;
   earliest = subst (λ (listed : List IndexPackage). IsOrdered listed (kept_stanzas test ordered)) (sym (stanzas_of-kept test places))
       (IsOrdered-kept test (stanzas_of places) ordered are.earliest);
 }
 
 -- records, places and stanzas in order ascend by name
-pub records_ascend : (known : List Record) → IsStrictlySortedBy record_cmp known → IsSorted (on (λ (found : Record). found.name) name_cmp) known
+pub records_ascend : (known : List Record) → IsStrictlySortedBy record_cmp known → IsSorted (on (λ (item : Record). item.name) name_cmp) known
 records_ascend known up = not_back record_cmp record_cmp_total.antisymm known up
 
 pub places_ascend : (places : List Place) → IsSorted place_cmp places
@@ -94,17 +94,17 @@ places_ascend places up = by_name_first (λ (place : Place). place.listed.pkg.na
     (λ place other. version_cmp place.listed.pkg.version other.listed.pkg.version) places up
 
 pub stanzas_ascend : (ordered : List IndexPackage) → IsStrictlySortedBy listed_cmp ordered
-    → IsSorted (on (λ (found : IndexPackage). found.pkg.name) name_cmp) ordered
-stanzas_ascend ordered up = by_name_first (λ (found : IndexPackage). found.pkg.name)
-    (λ found other. version_cmp found.pkg.version other.pkg.version) ordered (not_back listed_cmp listed_cmp_total.antisymm ordered up)
+    → IsSorted (on (λ (item : IndexPackage). item.pkg.name) name_cmp) ordered
+stanzas_ascend ordered up = by_name_first (λ (item : IndexPackage). item.pkg.name)
+    (λ item other. version_cmp item.pkg.version other.pkg.version) ordered (not_back listed_cmp listed_cmp_total.antisymm ordered up)
 
 -- what is at the front with the least name is all that has it, and the others follow
 pub record_parts : (known : List Record) (name : List ℕ) → IsStrictlySortedBy record_cmp known
-    → All (λ found. name_cmp found.name name ≢ Less) known
+    → All (λ item. name_cmp item.name name ≢ Less) known
     → (take (prefix_len (is_named name) known) known ≡ filter (is_named name) known)
-    × (drop (prefix_len (is_named name) known) known ≡ filter (λ found. not (is_named name found)) known)
-record_parts known name up least = parts (λ (found : Record). found.name) name known (records_ascend known up)
-    (λ found within. All-contains (λ (r : Record). name_cmp r.name name ≢ Less) known found least within)
+    × (drop (prefix_len (is_named name) known) known ≡ filter (λ item. not (is_named name item)) known)
+record_parts known name up least = parts (λ (item : Record). item.name) name known (records_ascend known up)
+    (λ item within. All-contains (λ (r : Record). name_cmp r.name name ≢ Less) known item least within)
 
 pub place_parts : (places : List Place) (name : List ℕ) → IsSorted place_cmp places
     → All (λ place. name_cmp place.listed.pkg.name name ≢ Less) places
@@ -114,26 +114,26 @@ place_parts places name up least = parts (λ (place : Place). place.listed.pkg.n
     (λ place within. All-contains (λ (p : Place). name_cmp p.listed.pkg.name name ≢ Less) places place least within)
 
 pub stanza_parts : (ordered : List IndexPackage) (name : List ℕ) → IsStrictlySortedBy listed_cmp ordered
-    → All (λ found. name_cmp found.pkg.name name ≢ Less) ordered
+    → All (λ item. name_cmp item.pkg.name name ≢ Less) ordered
     → (take (prefix_len (has_stanza_name name) ordered) ordered ≡ filter (has_stanza_name name) ordered)
-    × (drop (prefix_len (has_stanza_name name) ordered) ordered ≡ filter (λ found. not (has_stanza_name name found)) ordered)
-stanza_parts ordered name up least = parts (λ (found : IndexPackage). found.pkg.name) name ordered (stanzas_ascend ordered up)
-    (λ found within. All-contains (λ (l : IndexPackage). name_cmp l.pkg.name name ≢ Less) ordered found least within)
+    × (drop (prefix_len (has_stanza_name name) ordered) ordered ≡ filter (λ item. not (has_stanza_name name item)) ordered)
+stanza_parts ordered name up least = parts (λ (item : IndexPackage). item.pkg.name) name ordered (stanzas_ascend ordered up)
+    (λ item within. All-contains (λ (l : IndexPackage). name_cmp l.pkg.name name ≢ Less) ordered item least within)
 
 -- it is a name among these, and none of them is before it
-pub record IsLeast (name : List ℕ) (names : Names) : Type 0 where
+pub record IsLeast (name : List ℕ) (names : NameTable) : Type 0 where
   pub among : IsAmong name names
-  pub records : All (λ found. name_cmp found.name name ≢ Less) names.known
-  pub stanzas : All (λ found. name_cmp found.pkg.name name ≢ Less) names.ordered
+  pub records : All (λ item. name_cmp item.name name ≢ Less) names.known
+  pub stanzas : All (λ item. name_cmp item.pkg.name name ≢ Less) names.ordered
 
 -- where no stanza in order is before the name, no place is
 pub least_place : (places : List Place) (ordered : List IndexPackage) → IsOrdered (stanzas_of places) ordered → (name : List ℕ)
-    → All (λ found. name_cmp found.pkg.name name ≢ Less) ordered → All (λ place. name_cmp place.listed.pkg.name name ≢ Less) places
+    → All (λ item. name_cmp item.pkg.name name ≢ Less) ordered → All (λ place. name_cmp place.listed.pkg.name name ≢ Less) places
 least_place places ordered is name least = All-intro (λ (place : Place). name_cmp place.listed.pkg.name name ≢ Less) places
     (λ place within below.
     let there = ordered_stanza (stanzas_of places) ordered is place.listed (Contains-map_intro (λ (p : Place). p.listed) places place within)
     place.listed.pkg.name place.listed.pkg.version (of_itself place.listed.pkg) in
-    All-contains (λ (found : IndexPackage). name_cmp found.pkg.name name ≢ Less) ordered there.0 least there.1
+    All-contains (λ (item : IndexPackage). name_cmp item.pkg.name name ≢ Less) ordered there.0 least there.1
     (ap (λ (n : List ℕ). name_cmp n name) there.2.0 ∙ below))
 
 -- no name is before itself
@@ -169,29 +169,29 @@ of_none P = All-intro P [] (λ x within. absurd (Contains-nil x within))
 
 module _ (places : List Place) where
   -- these names
-  abbrev these : List Record → List IndexPackage → Names
+  abbrev these : List Record → List IndexPackage → NameTable
   these known ordered = record { known = known; places = places; ordered = ordered }
 
   -- the first record has a name among these, and so has the first stanza
   first_record : (first : Record) (known : List Record) (ordered : List IndexPackage) (name : List ℕ) → first.name ≡ name
       → IsAmong name (these (first ∷ known) ordered)
   first_record first known ordered name same =
-      inl (Any-intro (λ (found : Record). found.name ≡ name) (first ∷ known) first (Contains-head first known) same)
+      inl (Any-intro (λ (item : Record). item.name ≡ name) (first ∷ known) first (Contains-head first known) same)
 
   first_stanza : (known : List Record) (first : IndexPackage) (ordered : List IndexPackage) (name : List ℕ) → first.pkg.name ≡ name
       → IsAmong name (these known (first ∷ ordered))
   first_stanza known first ordered name same =
-      inr (Any-intro (λ (found : IndexPackage). found.pkg.name ≡ name) (first ∷ ordered) first (Contains-head first ordered) same)
+      inr (Any-intro (λ (item : IndexPackage). item.pkg.name ≡ name) (first ∷ ordered) first (Contains-head first ordered) same)
 
   records_from : (first : Record) (known : List Record) → IsStrictlySortedBy record_cmp (first ∷ known) → (name : List ℕ)
-      → name_cmp first.name name ≢ Less → All (λ found. name_cmp found.name name ≢ Less) (first ∷ known)
+      → name_cmp first.name name ≢ Less → All (λ item. name_cmp item.name name ≢ Less) (first ∷ known)
   records_from first known up name not_less =
-      none_before (λ (found : Record). found.name) name first known (records_ascend (first ∷ known) up) not_less
+      none_before (λ (item : Record). item.name) name first known (records_ascend (first ∷ known) up) not_less
 
   stanzas_from : (first : IndexPackage) (ordered : List IndexPackage) → IsStrictlySortedBy listed_cmp (first ∷ ordered) → (name : List ℕ)
-      → name_cmp first.pkg.name name ≢ Less → All (λ found. name_cmp found.pkg.name name ≢ Less) (first ∷ ordered)
+      → name_cmp first.pkg.name name ≢ Less → All (λ item. name_cmp item.pkg.name name ≢ Less) (first ∷ ordered)
   stanzas_from first ordered up name not_less =
-      none_before (λ (found : IndexPackage). found.pkg.name) name first ordered (stanzas_ascend (first ∷ ordered) up) not_less
+      none_before (λ (item : IndexPackage). item.pkg.name) name first ordered (stanzas_ascend (first ∷ ordered) up) not_less
 
   -- the lesser of the first names is the least
   IsLeast-from : (known : List Record) (ordered : List IndexPackage) → IsStrictlySortedBy record_cmp known
@@ -200,24 +200,24 @@ module _ (places : List Place) where
   IsLeast-from (first ∷ known) [] up up' name is = subst (λ (n : List ℕ). IsLeast n (these (first ∷ known) [])) (same_Some first.name name is) (record {
     among = first_record first known [] first.name refl;
     records = records_from first known up first.name (not_itself first.name);
-    stanzas = of_none (λ (found : IndexPackage). name_cmp found.pkg.name first.name ≢ Less);
+    stanzas = of_none (λ (item : IndexPackage). name_cmp item.pkg.name first.name ≢ Less);
   })
-  IsLeast-from [] (found ∷ ordered) up up' name is =
-      subst (λ (n : List ℕ). IsLeast n (these [] (found ∷ ordered))) (same_Some found.pkg.name name is) (record {
-        among = first_stanza [] found ordered found.pkg.name refl;
-        records = of_none (λ (first : Record). name_cmp first.name found.pkg.name ≢ Less);
-        stanzas = stanzas_from found ordered up' found.pkg.name (not_itself found.pkg.name);
+  IsLeast-from [] (item ∷ ordered) up up' name is =
+      subst (λ (n : List ℕ). IsLeast n (these [] (item ∷ ordered))) (same_Some item.pkg.name name is) (record {
+        among = first_stanza [] item ordered item.pkg.name refl;
+        records = of_none (λ (first : Record). name_cmp first.name item.pkg.name ≢ Less);
+        stanzas = stanzas_from item ordered up' item.pkg.name (not_itself item.pkg.name);
       })
-  IsLeast-from (first ∷ known) (found ∷ ordered) up up' name is =
-      let least : List ℕ = lesser first.name found.pkg.name in
-      let neither = not_before_lesser first.name found.pkg.name (is_lt (name_cmp found.pkg.name first.name)) refl in
-      subst (λ (n : List ℕ). IsLeast n (these (first ∷ known) (found ∷ ordered))) (same_Some least name is) (record {
-        among = elim (lesser_either first.name found.pkg.name (is_lt (name_cmp found.pkg.name first.name))) [
-          | inl same ↦ first_record first known (found ∷ ordered) least same
-          | inr same ↦ first_stanza (first ∷ known) found ordered least same
+  IsLeast-from (first ∷ known) (item ∷ ordered) up up' name is =
+      let least : List ℕ = lesser first.name item.pkg.name in
+      let neither = not_before_lesser first.name item.pkg.name (is_lt (name_cmp item.pkg.name first.name)) refl in
+      subst (λ (n : List ℕ). IsLeast n (these (first ∷ known) (item ∷ ordered))) (same_Some least name is) (record {
+        among = elim (lesser_either first.name item.pkg.name (is_lt (name_cmp item.pkg.name first.name))) [
+          | inl same ↦ first_record first known (item ∷ ordered) least same
+          | inr same ↦ first_stanza (first ∷ known) item ordered least same
         ];
         records = records_from first known up least neither.0;
-        stanzas = stanzas_from found ordered up' least neither.1;
+        stanzas = stanzas_from item ordered up' least neither.1;
       })
 
 pub least_is : (known : List Record) (places : List Place) (ordered : List IndexPackage) → InOrder known places ordered → (name : List ℕ)
@@ -261,7 +261,7 @@ other_name name other passes = at (bytes_eq other name) passes
     at true passes = absurd (let e : false ≡ true = passes in cc)
 
 -- what is left behind a name
-abbrev pub rest_of : Names → List ℕ → Names
+abbrev pub rest_of : NameTable → List ℕ → NameTable
 rest_of names name = record {
   known = kept_records (other_than name) names.known;
   places = kept_places (other_than name) names.places;
@@ -272,36 +272,36 @@ rest_of names name = record {
 abbrev pub own_of : List ℕ → List Record → List Place → List IndexPackage → OfName
 own_of name known places ordered = record { name = name; known = known; places = places; ordered = ordered }
 
-module _ (names : Names) (name : List ℕ) (least : IsLeast name names) where
-  abbrev rest : Names
+module _ (names : NameTable) (name : List ℕ) (least : IsLeast name names) where
+  abbrev rest : NameTable
   rest = rest_of names name
 
   -- all that is left is behind the name
   before : IsBefore name rest
   before = record {
-    records = All-intro (λ (found : Record). name_cmp name found.name ≡ Less) rest.known (λ found within.
-        let there = Contains-filter (λ (r : Record). other_than name r.name) names.known found within in
-        is_behind (λ (r : Record). r.name) name found
-        (All-contains (λ (r : Record). name_cmp r.name name ≢ Less) names.known found least.records there.0)
-        (other_name name found.name there.1));
-    stanzas = All-intro (λ (found : IndexPackage). name_cmp name found.pkg.name ≡ Less) rest.ordered (λ found within.
-        let there = Contains-filter (λ (l : IndexPackage). other_than name l.pkg.name) names.ordered found within in
-        is_behind (λ (l : IndexPackage). l.pkg.name) name found
-        (All-contains (λ (l : IndexPackage). name_cmp l.pkg.name name ≢ Less) names.ordered found least.stanzas there.0)
-        (other_name name found.pkg.name there.1));
+    records = All-intro (λ (item : Record). name_cmp name item.name ≡ Less) rest.known (λ item within.
+        let there = Contains-filter (λ (r : Record). other_than name r.name) names.known item within in
+        is_behind (λ (r : Record). r.name) name item
+        (All-contains (λ (r : Record). name_cmp r.name name ≢ Less) names.known item least.records there.0)
+        (other_name name item.name there.1));
+    stanzas = All-intro (λ (item : IndexPackage). name_cmp name item.pkg.name ≡ Less) rest.ordered (λ item within.
+        let there = Contains-filter (λ (l : IndexPackage). other_than name l.pkg.name) names.ordered item within in
+        is_behind (λ (l : IndexPackage). l.pkg.name) name item
+        (All-contains (λ (l : IndexPackage). name_cmp l.pkg.name name ≢ Less) names.ordered item least.stanzas there.0)
+        (other_name name item.pkg.name there.1));
   }
 
   -- another name among these is left
   left : (other : List ℕ) → bytes_eq other name ≡ false → IsAmong other names → IsAmong other rest
-  left other apart (inl some) = inl (Any-elim (λ (found : Record). found.name ≡ other) names.known
-      (Any (λ (found : Record). found.name ≡ other) rest.known)
-      (λ found within is. Any-intro (λ (r : Record). r.name ≡ other) rest.known found
-      (Contains-filter_intro (λ (r : Record). other_than name r.name) names.known found within
+  left other apart (inl some) = inl (Any-elim (λ (item : Record). item.name ≡ other) names.known
+      (Any (λ (item : Record). item.name ≡ other) rest.known)
+      (λ item within is. Any-intro (λ (r : Record). r.name ≡ other) rest.known item
+      (Contains-filter_intro (λ (r : Record). other_than name r.name) names.known item within
       (ap (other_than name) is ∙ ap not apart)) is) some)
-  left other apart (inr some) = inr (Any-elim (λ (found : IndexPackage). found.pkg.name ≡ other) names.ordered
-      (Any (λ (found : IndexPackage). found.pkg.name ≡ other) rest.ordered)
-      (λ found within is. Any-intro (λ (l : IndexPackage). l.pkg.name ≡ other) rest.ordered found
-      (Contains-filter_intro (λ (l : IndexPackage). other_than name l.pkg.name) names.ordered found within
+  left other apart (inr some) = inr (Any-elim (λ (item : IndexPackage). item.pkg.name ≡ other) names.ordered
+      (Any (λ (item : IndexPackage). item.pkg.name ≡ other) rest.ordered)
+      (λ item within is. Any-intro (λ (l : IndexPackage). l.pkg.name ≡ other) rest.ordered item
+      (Contains-filter_intro (λ (l : IndexPackage). other_than name l.pkg.name) names.ordered item within
       (ap (other_than name) is ∙ ap not apart)) is) some)
 
   either : (other : List ℕ) → IsAmong other names → (other ≡ name) ⊎ IsAmong other rest
@@ -313,18 +313,18 @@ module _ (names : Names) (name : List ℕ) (least : IsLeast name names) where
 
   -- a name that is left is among these, and another
   of_these : (other : List ℕ) → IsAmong other rest → IsAmong other names × (other_than name other ≡ true)
-  of_these other (inl some) = Any-elim (λ (found : Record). found.name ≡ other) rest.known
+  of_these other (inl some) = Any-elim (λ (item : Record). item.name ≡ other) rest.known
       (IsAmong other names × (other_than name other ≡ true))
-      (λ found within is.
-      let there = Contains-filter (λ (r : Record). other_than name r.name) names.known found within in (
-        inl (Any-intro (λ (r : Record). r.name ≡ other) names.known found there.0 is),
+      (λ item within is.
+      let there = Contains-filter (λ (r : Record). other_than name r.name) names.known item within in (
+        inl (Any-intro (λ (r : Record). r.name ≡ other) names.known item there.0 is),
         ap (other_than name) (sym is) ∙ there.1,
       )) some
-  of_these other (inr some) = Any-elim (λ (found : IndexPackage). found.pkg.name ≡ other) rest.ordered
+  of_these other (inr some) = Any-elim (λ (item : IndexPackage). item.pkg.name ≡ other) rest.ordered
       (IsAmong other names × (other_than name other ≡ true))
-      (λ found within is.
-      let there = Contains-filter (λ (l : IndexPackage). other_than name l.pkg.name) names.ordered found within in (
-        inr (Any-intro (λ (l : IndexPackage). l.pkg.name ≡ other) names.ordered found there.0 is),
+      (λ item within is.
+      let there = Contains-filter (λ (l : IndexPackage). other_than name l.pkg.name) names.ordered item within in (
+        inr (Any-intro (λ (l : IndexPackage). l.pkg.name ≡ other) names.ordered item there.0 is),
         ap (other_than name) (sym is) ∙ there.1,
       )) some
 
@@ -371,17 +371,17 @@ module _ (names : Names) (name : List ℕ) (least : IsLeast name names) where
       dropped held same = ap not (bytes_eq-same held name same)
 
       at : IsAmong name names → length rest.known + length rest.ordered < length names.known + length names.ordered
-      at (inl some) = Any-elim (λ (found : Record). found.name ≡ name) names.known
+      at (inl some) = Any-elim (λ (item : Record). item.name ≡ name) names.known
           (length rest.known + length rest.ordered < length names.known + length names.ordered)
-          (λ found within is.
+          (λ item within is.
           let shorter : length rest.known < length names.known =
-          kept_shorter (λ (r : Record). other_than name r.name) names.known found within (dropped found.name is) in
+          kept_shorter (λ (r : Record). other_than name r.name) names.known item within (dropped item.name is) in
           omega (arith, shorter, no_more_stanzas)) some
-      at (inr some) = Any-elim (λ (found : IndexPackage). found.pkg.name ≡ name) names.ordered
+      at (inr some) = Any-elim (λ (item : IndexPackage). item.pkg.name ≡ name) names.ordered
           (length rest.known + length rest.ordered < length names.known + length names.ordered)
-          (λ found within is.
+          (λ item within is.
           let shorter : length rest.ordered < length names.ordered =
-          kept_shorter (λ (l : IndexPackage). other_than name l.pkg.name) names.ordered found within (dropped found.pkg.name is) in
+          kept_shorter (λ (l : IndexPackage). other_than name l.pkg.name) names.ordered item within (dropped item.pkg.name is) in
           omega (arith, shorter, no_more_records)) some
 
 -- the records of a name are in order what the start has of it
@@ -390,8 +390,8 @@ IsByName-named : (db known : List Record) → IsByName db known → (name : List
 IsByName-named db known are name = record {
   ascending = IsStrictlySortedBy-filter record_cmp (is_named name) known are.ascending;
   same = λ other.
-      let same : (found : Record) → is_named other found ≡ true → is_named name found ≡ bytes_eq other name =
-      λ found passes. ap (λ (n : List ℕ). bytes_eq n name) (bytes_eq-true found.name other passes) in
+      let same : (item : Record) → is_named other item ≡ true → is_named name item ≡ bytes_eq other name =
+      λ item passes. ap (λ (n : List ℕ). bytes_eq n name) (bytes_eq-true item.name other passes) in
       find-decided (is_named other) (is_named name) (bytes_eq other name) same known
       ∙ ap (λ (o : Option Record). cond (bytes_eq other name) o None) (are.same other)
       ∙ sym (find-decided (is_named other) (is_named name) (bytes_eq other name) same db);

@@ -32,12 +32,12 @@ with_version-named name version places = filter-within (λ (place : Place). is_o
 kept_among-is : (db : List Record) (places : List Place) (name version : List ℕ)
     → kept_among (standing_version db name version) (with_version name version places) ≡ kept_version db (stanzas_of places) name version
 kept_among-is db places name version = at (standing_version db name version) (with_version name version places)
-    ∙ ap (λ (o : Option IndexPackage). option_or (standing_version db name version) (option_map (λ (found : IndexPackage). found.pkg.version) o))
+    ∙ ap (λ (o : Option IndexPackage). option_or (standing_version db name version) (option_map (λ (listed : IndexPackage). listed.pkg.version) o))
     (sym (stanza_of-places places name version))
   where
-    at : (o : Option (List ℕ)) (found : List Place) → kept_among o found
-        ≡ option_or o (option_map (λ (found : IndexPackage). found.pkg.version) (option_map (λ (place : Place). place.listed) (first_of_all found)))
-    at (Some text) found = refl
+    at : (o : Option (List ℕ)) (listed : List Place) → kept_among o listed
+        ≡ option_or o (option_map (λ (listed : IndexPackage). listed.pkg.version) (option_map (λ (place : Place). place.listed) (first_of_all listed)))
+    at (Some text) listed = refl
     at None [] = refl
     at None (place ∷ more) = refl
 

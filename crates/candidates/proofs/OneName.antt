@@ -42,7 +42,7 @@ module _ (prefs : Preferences) (db : List Record) (places : List Place) (name : 
   own_places = filter (has_place_name name) places
 
   found_own : find (is_named name) own_db ≡ find (is_named name) db
-  found_own = find-within (is_named name) (is_named name) (λ found passes. passes) db
+  found_own = find-within (is_named name) (is_named name) (λ item passes. passes) db
 
   standing_own : (version : List ℕ) → standing_version own_db name version ≡ standing_version db name version
   standing_own version = ap (option_and_then (standing_as version)) found_own
@@ -58,9 +58,9 @@ module _ (prefs : Preferences) (db : List Record) (places : List Place) (name : 
 
   kept_own : (version : List ℕ) → kept_version own_db (stanzas_of own_places) name version ≡ kept_version db (stanzas_of places) name version
   kept_own version =
-      ap (λ (o : Option (List ℕ)). option_or o (option_map (λ (found : IndexPackage). found.pkg.version) (stanza_of (stanzas_of own_places) name version)))
+      ap (λ (o : Option (List ℕ)). option_or o (option_map (λ (item : IndexPackage). item.pkg.version) (stanza_of (stanzas_of own_places) name version)))
       (standing_own version)
-      ∙ ap (λ (o : Option IndexPackage). option_or (standing_version db name version) (option_map (λ (found : IndexPackage). found.pkg.version) o))
+      ∙ ap (λ (o : Option IndexPackage). option_or (standing_version db name version) (option_map (λ (item : IndexPackage). item.pkg.version) o))
       (stanza_own version)
 
   origins_own : (version : List ℕ) → origins_among own_db own_places name version ≡ origins_among db places name version
@@ -74,16 +74,16 @@ module _ (prefs : Preferences) (db : List Record) (places : List Place) (name : 
     where
       at : (o : Option (List ℕ)) → standing_version own_db other version ≡ o → (l : Option IndexPackage)
           → stanza_of (stanzas_of own_places) other version ≡ l
-          → option_or o (option_map (λ (found : IndexPackage). found.pkg.version) l) ≡ Some text → other ≡ name
+          → option_or o (option_map (λ (item : IndexPackage). item.pkg.version) l) ≡ Some text → other ≡ name
       at (Some own) some l from whole =
           let there = standing_version-is own_db other version own some in
           let kept = Contains-filter (is_named name) db there.0 (find-some (is_named other) own_db there.0 there.1).0 in
           sym there.2 ∙ bytes_eq-true there.0.name name kept.1
-      at None none (Some found) from whole =
-          let there = find-some (λ (l : IndexPackage). is_of other version l.pkg) (stanzas_of own_places) found from in
-          let place = Contains-map (λ (p : Place). p.listed) own_places found there.0 in
+      at None none (Some item) from whole =
+          let there = find-some (λ (l : IndexPackage). is_of other version l.pkg) (stanzas_of own_places) item from in
+          let place = Contains-map (λ (p : Place). p.listed) own_places item there.0 in
           let kept = Contains-filter (has_place_name name) places place.0 place.1 in
-          sym (is_of-parts other version found.pkg there.1).0 ∙ ap (λ (l : IndexPackage). l.pkg.name) (sym place.2)
+          sym (is_of-parts other version item.pkg there.1).0 ∙ ap (λ (l : IndexPackage). l.pkg.name) (sym place.2)
           ∙ bytes_eq-true place.0.listed.pkg.name name kept.1
       at None none None from whole = absurd (let e : None ≡ Some text = whole in cc)
 

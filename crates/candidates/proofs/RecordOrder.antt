@@ -30,11 +30,11 @@ use Rattle.candidates.proofs.Finding.{find-dedup, find-filter, first_of_all}
 use Rattle.candidates.proofs.StanzaOrder.{bare, listed_cmp-tied, ties-eq}
 
 -- records that tie have one name
-is_named-alike : (name : List ℕ) (found other : Record) → eq_by_cmp record_cmp found other ≡ true
-    → is_named name found ≡ is_named name other
-is_named-alike name found other tied =
-    let named : found.name ≡ other.name =
-    bytes_eq-true found.name other.name (sym (is_eq-slice_cmp found.name other.name) ∙ tied) in
+is_named-alike : (name : List ℕ) (entry other : Record) → eq_by_cmp record_cmp entry other ≡ true
+    → is_named name entry ≡ is_named name other
+is_named-alike name entry other tied =
+    let named : entry.name ≡ other.name =
+    bytes_eq-true entry.name other.name (sym (is_eq-slice_cmp entry.name other.name) ∙ tied) in
     ap (λ (n : List ℕ). bytes_eq n name) named
 
 -- a record of the name, where nothing else counts
@@ -50,12 +50,12 @@ called name = record {
   is_essential = true;
 }
 
-ties_is_named : (name : List ℕ) (found : Record)
-    → ties (λ x y. is_lt (record_cmp x y)) (called name) found ≡ is_named name found
-ties_is_named name found =
-    ap (λ (o : Ordering). not (is_lt o) && not (is_lt (record_cmp found (called name)))) (record_cmp_total.antisymm (called name) found)
-    ∙ ties-eq (record_cmp found (called name))
-    ∙ is_eq-slice_cmp found.name name
+ties_is_named : (name : List ℕ) (entry : Record)
+    → ties (λ x y. is_lt (record_cmp x y)) (called name) entry ≡ is_named name entry
+ties_is_named name entry =
+    ap (λ (o : Ordering). not (is_lt o) && not (is_lt (record_cmp entry (called name)))) (record_cmp_total.antisymm (called name) entry)
+    ∙ ties-eq (record_cmp entry (called name))
+    ∙ is_eq-slice_cmp entry.name name
 
 -- a stable sort finds what the list found
 find-stable_record : (name : List ℕ) (db sorted : List Record) → IsStable record_cmp db sorted
@@ -76,48 +76,48 @@ IsByName-from_sort db sorted known up stable same = subst (IsByName db) (sym sam
 })
 
 -- of one name there is one record in order
-pub one_record : (known : List Record) (name : List ℕ) → IsStrictlySortedBy record_cmp known → (found other : Record) → Contains known found
-    → Contains known other → is_named name found ≡ true → is_named name other ≡ true → found ≡ other
-one_record known name ascending found other one two named named' = sorted-one record_cmp_total known ascending found other one two
-    ((Equal-is (record_cmp found other)).0
-    (is_eq-slice_cmp found.name other.name ∙ ap (bytes_eq found.name) (bytes_eq-true other.name name named') ∙ named))
+pub one_record : (known : List Record) (name : List ℕ) → IsStrictlySortedBy record_cmp known → (entry other : Record) → Contains known entry
+    → Contains known other → is_named name entry ≡ true → is_named name other ≡ true → entry ≡ other
+one_record known name ascending entry other one two named named' = sorted-one record_cmp_total known ascending entry other one two
+    ((Equal-is (record_cmp entry other)).0
+    (is_eq-slice_cmp entry.name other.name ∙ ap (bytes_eq entry.name) (bytes_eq-true other.name name named') ∙ named))
 
 -- the record at the place that a binary search finds is that of the name
 pub searched_record : (known : List Record) (name : List ℕ) (i : ℕ) → IsStrictlySortedBy record_cmp known
-    → IsSearchInRange (Ok i) (length known) → IsBinarySearchResult (λ (found : Record). name_cmp found.name name) known (Ok i)
+    → IsSearchInRange (Ok i) (length known) → IsBinarySearchResult (λ (entry : Record). name_cmp entry.name name) known (Ok i)
     → slice_get known i ≡ find (is_named name) known
-searched_record known name i ascending within found = searched_find (is_named name) (λ (found : Record). name_cmp found.name name) known i
-    (λ found. is_eq-slice_cmp found.name name) (λ found other. one_record known name ascending found other) within found
+searched_record known name i ascending within is = searched_find (is_named name) (λ (entry : Record). name_cmp entry.name name) known i
+    (λ entry. is_eq-slice_cmp entry.name name) (λ entry other. one_record known name ascending entry other) within is
 
 pub searched_no_record : (known : List Record) (name : List ℕ) (i : ℕ) → IsStrictlySortedBy record_cmp known
-    → IsSearchInRange (Err i) (length known) → IsBinarySearchResult (λ (found : Record). name_cmp found.name name) known (Err i)
+    → IsSearchInRange (Err i) (length known) → IsBinarySearchResult (λ (entry : Record). name_cmp entry.name name) known (Err i)
     → None ≡ find (is_named name) known
-searched_no_record known name i ascending within found = sym (searched_none (is_named name) (λ (found : Record). name_cmp found.name name) known i
-    (λ found. is_eq-slice_cmp found.name name)
-    (searchable_from_sorted nat_list_cmp_total (λ (found : Record). found.name) known name
-    (not_back record_cmp record_cmp_total.antisymm known ascending)) within found)
+searched_no_record known name i ascending within is = sym (searched_none (is_named name) (λ (entry : Record). name_cmp entry.name name) known i
+    (λ entry. is_eq-slice_cmp entry.name name)
+    (searchable_from_sorted nat_list_cmp_total (λ (entry : Record). entry.name) known name
+    (not_back record_cmp record_cmp_total.antisymm known ascending)) within is)
 
 -- of one version of a name there is one stanza in order
-one_stanza : (ordered : List IndexPackage) (name version : List ℕ) → IsStrictlySortedBy listed_cmp ordered → (found other : IndexPackage)
-    → Contains ordered found → Contains ordered other → is_of name version found.pkg ≡ true → is_of name version other.pkg ≡ true
-    → found ≡ other
-one_stanza ordered name version ascending found other one two of of' = sorted-one listed_cmp_total ordered ascending found other one two
-    (listed_cmp-tied found other (same_pair name version found.pkg other.pkg (is_of-parts name version found.pkg of) (is_of-parts name version other.pkg of')))
+one_stanza : (ordered : List IndexPackage) (name version : List ℕ) → IsStrictlySortedBy listed_cmp ordered → (stanza other : IndexPackage)
+    → Contains ordered stanza → Contains ordered other → is_of name version stanza.pkg ≡ true → is_of name version other.pkg ≡ true
+    → stanza ≡ other
+one_stanza ordered name version ascending stanza other one two of of' = sorted-one listed_cmp_total ordered ascending stanza other one two
+    (listed_cmp-tied stanza other (same_pair name version stanza.pkg other.pkg (is_of-parts name version stanza.pkg of) (is_of-parts name version other.pkg of')))
 
 -- the stanza at the place that a binary search finds is that of the version
 pub searched_stanza : (ordered : List IndexPackage) (name version : List ℕ) (i : ℕ) → IsStrictlySortedBy listed_cmp ordered
-    → IsSearchInRange (Ok i) (length ordered) → IsBinarySearchResult (λ (found : IndexPackage). pkg_order found.pkg name version) ordered (Ok i)
+    → IsSearchInRange (Ok i) (length ordered) → IsBinarySearchResult (λ (stanza : IndexPackage). pkg_order stanza.pkg name version) ordered (Ok i)
     → slice_get ordered i ≡ stanza_of ordered name version
-searched_stanza ordered name version i ascending within found =
-    searched_find (λ (found : IndexPackage). is_of name version found.pkg) (λ (found : IndexPackage). pkg_order found.pkg name version) ordered i
-    (λ found. pkg_order-ties name version found.pkg) (λ found other. one_stanza ordered name version ascending found other) within found
+searched_stanza ordered name version i ascending within is =
+    searched_find (λ (stanza : IndexPackage). is_of name version stanza.pkg) (λ (stanza : IndexPackage). pkg_order stanza.pkg name version) ordered i
+    (λ stanza. pkg_order-ties name version stanza.pkg) (λ stanza other. one_stanza ordered name version ascending stanza other) within is
 
 pub searched_no_stanza : (ordered : List IndexPackage) (name version : List ℕ) (i : ℕ) → IsStrictlySortedBy listed_cmp ordered
-    → IsSearchInRange (Err i) (length ordered) → IsBinarySearchResult (λ (found : IndexPackage). pkg_order found.pkg name version) ordered (Err i)
+    → IsSearchInRange (Err i) (length ordered) → IsBinarySearchResult (λ (stanza : IndexPackage). pkg_order stanza.pkg name version) ordered (Err i)
     → None ≡ stanza_of ordered name version
-searched_no_stanza ordered name version i ascending within found =
-    sym (searched_none (λ (found : IndexPackage). is_of name version found.pkg) (λ (found : IndexPackage). pkg_order found.pkg name version) ordered i
-    (λ found. pkg_order-ties name version found.pkg)
-    (searchable_from_sorted listed_cmp_total (λ (found : IndexPackage). found) ordered
+searched_no_stanza ordered name version i ascending within is =
+    sym (searched_none (λ (stanza : IndexPackage). is_of name version stanza.pkg) (λ (stanza : IndexPackage). pkg_order stanza.pkg name version) ordered i
+    (λ stanza. pkg_order-ties name version stanza.pkg)
+    (searchable_from_sorted listed_cmp_total (λ (stanza : IndexPackage). stanza) ordered
     (bare (record { name = name; version = version; relations = no_relations }))
-    (not_back listed_cmp listed_cmp_total.antisymm ordered ascending)) within found)
+    (not_back listed_cmp listed_cmp_total.antisymm ordered ascending)) within is)

@@ -38,13 +38,13 @@ sorted_names ordered ascending k d low high =
 
 -- a binary search among stanzas in order tells whether one has the name
 pub searched_name : (ordered : List IndexPackage) (name : List ℕ) (r : Result ℕ ℕ) → IsStrictlySortedBy listed_cmp ordered
-    → IsSearchInRange r (length ordered) → IsBinarySearchResult (λ found. name_cmp found.pkg.name name) ordered r
+    → IsSearchInRange r (length ordered) → IsBinarySearchResult (λ stanza. name_cmp stanza.pkg.name name) ordered r
     → is_ok r ≡ has_name ordered name
-searched_name ordered name r ascending within found =
-    searched_any (λ (found : IndexPackage). bytes_eq found.pkg.name name) (λ (found : IndexPackage). name_cmp found.pkg.name name) ordered r
-    (λ found. is_eq-slice_cmp found.pkg.name name)
-    (searchable_from_sorted nat_list_cmp_total (λ (found : IndexPackage). found.pkg.name) ordered name (sorted_names ordered ascending))
-    within found
+searched_name ordered name r ascending within is =
+    searched_any (λ (stanza : IndexPackage). bytes_eq stanza.pkg.name name) (λ (stanza : IndexPackage). name_cmp stanza.pkg.name name) ordered r
+    (λ stanza. is_eq-slice_cmp stanza.pkg.name name)
+    (searchable_from_sorted nat_list_cmp_total (λ (stanza : IndexPackage). stanza.pkg.name) ordered name (sorted_names ordered ascending))
+    within is
 
 -- one test passes where the other does
 pub same_tests : (a b : Bool) → (a ≡ true → b ≡ true) → (b ≡ true → a ≡ true) → a ≡ b
@@ -57,19 +57,19 @@ pub has_name-ordered : (listed ordered : List IndexPackage) → IsOrdered listed
     → has_name ordered name ≡ has_name listed name
 has_name-ordered listed ordered is name = same_tests (has_name ordered name) (has_name listed name)
     (λ some. Any-elim named ordered (has_name listed name ≡ true)
-    (λ found within passes.
-    let at = find-some (λ (other : IndexPackage). is_of found.pkg.name found.pkg.version other.pkg) listed found
-    (found_ordered listed ordered is found within found.pkg.name found.pkg.version (of_itself found.pkg)) in
-    list_any-from_contains has listed found at.0 passes)
+    (λ stanza within passes.
+    let at = find-some (λ (other : IndexPackage). is_of stanza.pkg.name stanza.pkg.version other.pkg) listed stanza
+    (found_ordered listed ordered is stanza within stanza.pkg.name stanza.pkg.version (of_itself stanza.pkg)) in
+    list_any-from_contains has listed stanza at.0 passes)
     (Any-from_list_any has ordered some))
     (λ some. Any-elim named listed (has_name ordered name ≡ true)
-    (λ found within passes.
-    let there = ordered_stanza listed ordered is found within found.pkg.name found.pkg.version (of_itself found.pkg) in
+    (λ stanza within passes.
+    let there = ordered_stanza listed ordered is stanza within stanza.pkg.name stanza.pkg.version (of_itself stanza.pkg) in
     list_any-from_contains has ordered there.0 there.1 (ap (λ (n : List ℕ). bytes_eq n name) there.2.0 ∙ passes))
     (Any-from_list_any has listed some))
   where
     has : IndexPackage → Bool
-    has found = bytes_eq found.pkg.name name
+    has stanza = bytes_eq stanza.pkg.name name
 
     named : IndexPackage → Type 0
-    named found = has found ≡ true
+    named stanza = has stanza ≡ true

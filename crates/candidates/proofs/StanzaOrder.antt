@@ -26,23 +26,23 @@ use Rattle.candidates.specs.StanzaLaws.{listed_cmp_total, place_cmp_total}
 use Rattle.candidates.proofs.Finding.{find-dedup}
 
 -- the order ties a stanza with just the stanzas of its name and version
-pub listed_cmp-ties : (found other : IndexPackage) → is_eq (listed_cmp found other) ≡ is_of other.pkg.name other.pkg.version found.pkg
-listed_cmp-ties found other = is_eq-then (name_cmp found.pkg.name other.pkg.name) (version_cmp found.pkg.version other.pkg.version)
-    ∙ ap (λ (b : Bool). b && same_version found.pkg.version other.pkg.version) (is_eq-slice_cmp found.pkg.name other.pkg.name)
+pub listed_cmp-ties : (stanza other : IndexPackage) → is_eq (listed_cmp stanza other) ≡ is_of other.pkg.name other.pkg.version stanza.pkg
+listed_cmp-ties stanza other = is_eq-then (name_cmp stanza.pkg.name other.pkg.name) (version_cmp stanza.pkg.version other.pkg.version)
+    ∙ ap (λ (b : Bool). b && same_version stanza.pkg.version other.pkg.version) (is_eq-slice_cmp stanza.pkg.name other.pkg.name)
 
-pub listed_cmp-tied : (found other : IndexPackage) → IsOf other.pkg.name other.pkg.version found.pkg → listed_cmp found other ≡ Equal
-listed_cmp-tied found other of = (Equal-is (listed_cmp found other)).0
-    (listed_cmp-ties found other ∙ is_of-from other.pkg.name other.pkg.version found.pkg of)
+pub listed_cmp-tied : (stanza other : IndexPackage) → IsOf other.pkg.name other.pkg.version stanza.pkg → listed_cmp stanza other ≡ Equal
+listed_cmp-tied stanza other of = (Equal-is (listed_cmp stanza other)).0
+    (listed_cmp-ties stanza other ∙ is_of-from other.pkg.name other.pkg.version stanza.pkg of)
 
 -- stanzas that tie are of the same names and versions
-pub is_of-alike : (name version : List ℕ) (found other : IndexPackage) → eq_by_cmp listed_cmp found other ≡ true
-    → is_of name version found.pkg ≡ is_of name version other.pkg
-is_of-alike name version found other tied =
-    let of : IsOf other.pkg.name other.pkg.version found.pkg =
-    is_of-parts other.pkg.name other.pkg.version found.pkg (sym (listed_cmp-ties found other) ∙ tied) in
-    let names : bytes_eq found.pkg.name name ≡ bytes_eq other.pkg.name name = ap (λ (n : List ℕ). bytes_eq n name) of.0 in
-    let versions : same_version found.pkg.version version ≡ same_version other.pkg.version version =
-    ap is_eq (version_cmp-same_left found.pkg.version other.pkg.version version of.1) in
+pub is_of-alike : (name version : List ℕ) (stanza other : IndexPackage) → eq_by_cmp listed_cmp stanza other ≡ true
+    → is_of name version stanza.pkg ≡ is_of name version other.pkg
+is_of-alike name version stanza other tied =
+    let of : IsOf other.pkg.name other.pkg.version stanza.pkg =
+    is_of-parts other.pkg.name other.pkg.version stanza.pkg (sym (listed_cmp-ties stanza other) ∙ tied) in
+    let names : bytes_eq stanza.pkg.name name ≡ bytes_eq other.pkg.name name = ap (λ (n : List ℕ). bytes_eq n name) of.0 in
+    let versions : same_version stanza.pkg.version version ≡ same_version other.pkg.version version =
+    ap is_eq (version_cmp-same_left stanza.pkg.version other.pkg.version version of.1) in
     cc
 
 -- neither before the other is as much as tied
@@ -92,6 +92,6 @@ pub IsOrdered-dedup : (sorted : List Place) (ordered : List IndexPackage) → Is
 IsOrdered-dedup sorted ordered up same = subst (IsOrdered (stanzas_of sorted)) (sym same) (record {
   ascending = IsStrictlySortedBy-dedup listed_cmp_total (λ x y. refl) (stanzas_of sorted) (sorted_stanzas sorted up);
   earliest = λ name version.
-      find-dedup (eq_by_cmp listed_cmp) (λ found. is_of name version found.pkg) (λ x k tied. is_of-alike name version x k tied)
+      find-dedup (eq_by_cmp listed_cmp) (λ stanza. is_of name version stanza.pkg) (λ x k tied. is_of-alike name version x k tied)
       (stanzas_of sorted);
 })

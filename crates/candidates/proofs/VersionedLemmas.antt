@@ -47,10 +47,10 @@ present TriggersPending rest h = refl
 present Installed rest h = refl
 
 -- the record of what stands has a version
-pub never_without : (arch : List ℕ) (stanza : StanzaText) (found : Record) → IsKept arch stanza found → stands found ≡ true → found.version ≡ [] → ⊥
-never_without arch stanza found kept standing empty =
+pub never_without : (arch : List ℕ) (stanza : StanzaText) (entry : Record) → IsKept arch stanza entry → stands entry ≡ true → entry.version ≡ [] → ⊥
+never_without arch stanza entry kept standing empty =
     let fields = fields_of stanza in
-    let read = read_whole (pkg_fault fields) (spelled_pkg arch fields) (pkg_of found) (kept.pkg (present found.state _ standing)) in
+    let read = read_whole (pkg_fault fields) (spelled_pkg arch fields) (pkg_of entry) (kept.pkg (present entry.state _ standing)) in
     is_versioned fields.line fields.version
     (none-front (pkg_version_fault fields) (relations_fault fields) (none-back (pkg_name_fault fields) (option_or (pkg_version_fault fields) (relations_fault fields)) read.0))
     (ap (λ (pkg : Pkg). pkg.version) read.1 ∙ empty)

@@ -13,5 +13,5 @@ lesser name other = if is_lt (name_cmp other name) then other else name
 abbrev pub least_of : List Record → List IndexPackage → Option (List ℕ)
 least_of [] [] = None
 least_of (first ∷ known) [] = Some first.name
-least_of [] (found ∷ ordered) = Some found.pkg.name
-least_of (first ∷ known) (found ∷ ordered) = Some (lesser first.name found.pkg.name)
+least_of [] (stanza ∷ ordered) = Some stanza.pkg.name
+least_of (first ∷ known) (stanza ∷ ordered) = Some (lesser first.name stanza.pkg.name)

@@ -12,7 +12,7 @@ use Rattle.candidates.specs.Recorded.{IsByName, record_cmp}
 use Rattle.candidates.specs.Stanza.{IsOrdered, has_stanza_name}
 
 -- records, places of stanzas, and the earliest stanza of each version
-pub record Names : Type 0 where
+pub record NameTable : Type 0 where
   pub known : List Record
   pub places : List Place
   pub ordered : List IndexPackage
@@ -31,7 +31,7 @@ pub record InOrder (known : List Record) (places : List Place) (ordered : List I
   pub earliest : IsOrdered (stanzas_of places) ordered
 
 -- what these have of the name
-abbrev pub part_of : Names → List ℕ → OfName
+abbrev pub part_of : NameTable → List ℕ → OfName
 part_of names name = record {
   name = name;
   known = filter (is_named name) names.known;
@@ -45,26 +45,26 @@ pub record IsAllOf (db : List Record) (indices : List Index) (own : OfName) : Ty
   pub places : AreSorted (filter (has_place_name own.name) (places_of indices)) own.places
 
 -- the name has a record or a stanza among these
-abbrev pub IsAmong : List ℕ → Names → Type 0
-IsAmong name names = Any (λ found. found.name ≡ name) names.known ⊎ Any (λ found. found.pkg.name ≡ name) names.ordered
+abbrev pub IsAmong : List ℕ → NameTable → Type 0
+IsAmong name names = Any (λ item. item.name ≡ name) names.known ⊎ Any (λ item. item.pkg.name ≡ name) names.ordered
 
 -- the name is before all names among these
-pub record IsBefore (name : List ℕ) (names : Names) : Type 0 where
-  pub records : All (λ found. name_cmp name found.name ≡ Less) names.known
-  pub stanzas : All (λ found. name_cmp name found.pkg.name ≡ Less) names.ordered
+pub record IsBefore (name : List ℕ) (names : NameTable) : Type 0 where
+  pub records : All (λ item. name_cmp name item.name ≡ Less) names.known
+  pub stanzas : All (λ item. name_cmp name item.pkg.name ≡ Less) names.ordered
 
 -- of each name among these they have what the start and the indices have
-abbrev pub AreWhole : List Record → List Index → Names → Type 0
+abbrev pub AreWhole : List Record → List Index → NameTable → Type 0
 AreWhole db indices names = (name : List ℕ) → IsAmong name names → IsAllOf db indices (part_of names name)
 
 -- they are the names of the start and of the indices
-pub record AreNames (db : List Record) (indices : List Index) (names : Names) : Type 0 where
+pub record AreNames (db : List Record) (indices : List Index) (names : NameTable) : Type 0 where
   pub known : IsByName db names.known
   pub ordered : IsOrdered (all_listed indices) names.ordered
   pub whole : AreWhole db indices names
 
 -- the first of the names with what they have of it, and the names behind it
-pub record IsSplit (names : Names) (own : OfName) (rest : Names) : Type 0 where
+pub record IsSplit (names : NameTable) (own : OfName) (rest : NameTable) : Type 0 where
   pub first : own ≡ part_of names own.name
   pub among : IsAmong own.name names
   pub before : IsBefore own.name rest

@@ -23,8 +23,8 @@ IsFor name version offer = (offer.name ≡ name) × SameVersion offer.version ve
 -- the offer may be chosen beside the record of its name, if it has one: its priority is above 0, and it is no downgrade with
 -- a priority below 1000
 abbrev pub is_eligible_beside : Option Record → Offer → Bool
-is_eligible_beside found offer = int_lt (pos 0) offer.priority
-    && not (int_lt offer.priority (pos 1000) && option_map_or (stands_above offer.version) found false)
+is_eligible_beside entry offer = int_lt (pos 0) offer.priority
+    && not (int_lt offer.priority (pos 1000) && option_map_or (stands_above offer.version) entry false)
 
 -- the offer may be chosen
 abbrev pub is_eligible : List Record → Offer → Bool

@@ -17,7 +17,7 @@ use Rattle.candidates.specs.Stanza.{stanza_of}
 -- the text of a version that is kept: that of what stands, or else that of the earliest stanza
 abbrev pub kept_version : List Record → List IndexPackage → List ℕ → List ℕ → Option (List ℕ)
 kept_version db listed name version =
-    option_or (standing_version db name version) (option_map (λ found. found.pkg.version) (stanza_of listed name version))
+    option_or (standing_version db name version) (option_map (λ stanza. stanza.pkg.version) (stanza_of listed name version))
 
 -- the origins of a version with these places: the status file where it stands, and the indices of the places
 abbrev pub origins_with : Bool → List Place → List Origin
@@ -63,8 +63,8 @@ pub record IsEligibleOfRun (prefs : Preferences) (db : List Record) (first : Pla
 
 -- the version that the record stands in, where no stanza has it
 abbrev pub standing_alone : List IndexPackage → Record → Option (List ℕ)
-standing_alone listed found =
-    if stands found && is_none (stanza_of listed found.name found.version) then Some found.version else None
+standing_alone listed entry =
+    if stands entry && is_none (stanza_of listed entry.name entry.version) then Some entry.version else None
 
 -- the offer is of a version of the name in the text that is kept, with its priority
 pub record IsRated (prefs : Preferences) (db : List Record) (places : List Place) (offer : Offer) : Type 0 where

@@ -18,19 +18,19 @@ is_of_record test db name = option_map_or test (find (is_named name) db) false
 
 -- the name is held
 abbrev pub is_held : List Record → List ℕ → Bool
-is_held db name = is_of_record (λ found. is_hold found.want) db name
+is_held db name = is_of_record (λ entry. is_hold entry.want) db name
 
 -- the name is in a state other than not-installed
 abbrev pub is_recorded : List Record → List ℕ → Bool
-is_recorded db name = is_of_record (λ found. not (is_not_installed_state found.state)) db name
+is_recorded db name = is_of_record (λ entry. not (is_not_installed_state entry.state)) db name
 
 -- the version is the one of the name that stands
 abbrev pub stands_as : List Record → List ℕ → List ℕ → Bool
-stands_as db name version = is_of_record (λ found. stands found && same_version found.version version) db name
+stands_as db name version = is_of_record (λ entry. stands entry && same_version entry.version version) db name
 
 -- the text of the version that the record stands in, where it is this version
 abbrev pub standing_as : List ℕ → Record → Option (List ℕ)
-standing_as version found = if stands found && same_version found.version version then Some found.version else None
+standing_as version entry = if stands entry && same_version entry.version version then Some entry.version else None
 
 -- the text of the version of the name that stands, where it is this version
 abbrev pub standing_version : List Record → List ℕ → List ℕ → Option (List ℕ)
@@ -42,7 +42,7 @@ is_free db name version = not (stands_as db name version) && not (is_held db nam
 
 -- the record stands in a version above this one
 abbrev pub stands_above : List ℕ → Record → Bool
-stands_above version found = stands found && is_lt (version_cmp version found.version)
+stands_above version entry = stands entry && is_lt (version_cmp version entry.version)
 
 -- the version is lower than the one of the name that stands
 abbrev pub is_downgrade : List Record → List ℕ → List ℕ → Bool
@@ -50,7 +50,7 @@ is_downgrade db name version = is_of_record (stands_above version) db name
 
 -- the order of records: by name
 abbrev pub record_cmp : Record → Record → Ordering
-record_cmp = on (λ found. found.name) name_cmp
+record_cmp = on (λ entry. entry.name) name_cmp
 
 -- the records in the order of their names
 pub record IsByName (db known : List Record) : Type 0 where

@@ -5,4 +5,4 @@ use Rattle.rules.specs.Database.{Record}
 use Rattle.candidates.specs.Recorded.{record_cmp}
 
 pub record_cmp_total : IsTotalOrder record_cmp
-record_cmp_total = on_total (λ (found : Record). found.name) nat_list_cmp_total
+record_cmp_total = on_total (λ (entry : Record). entry.name) nat_list_cmp_total

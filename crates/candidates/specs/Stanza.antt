@@ -11,15 +11,15 @@ use Rattle.rules.specs.Version.{version_cmp}
 
 -- the order of stanzas: by name and then by version
 abbrev pub listed_cmp : IndexPackage → IndexPackage → Ordering
-listed_cmp = then_cmp (on (λ found. found.pkg.name) name_cmp) (on (λ found. found.pkg.version) version_cmp)
+listed_cmp = then_cmp (on (λ stanza. stanza.pkg.name) name_cmp) (on (λ stanza. stanza.pkg.version) version_cmp)
 
 -- the earliest stanza of this version of the name
 abbrev pub stanza_of : List IndexPackage → List ℕ → List ℕ → Option IndexPackage
-stanza_of listed name version = find (λ found. is_of name version found.pkg) listed
+stanza_of listed name version = find (λ stanza. is_of name version stanza.pkg) listed
 
 -- the stanza has the name
 abbrev pub has_stanza_name : List ℕ → IndexPackage → Bool
-has_stanza_name name found = bytes_eq found.pkg.name name
+has_stanza_name name stanza = bytes_eq stanza.pkg.name name
 
 -- a stanza has the name
 abbrev pub has_name : List IndexPackage → List ℕ → Bool

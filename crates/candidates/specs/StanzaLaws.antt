@@ -8,8 +8,8 @@ use Rattle.candidates.specs.Stanza.{listed_cmp}
 
 pub listed_cmp_total : IsTotalOrder listed_cmp
 listed_cmp_total = then_total
-    (on_total (λ (found : IndexPackage). found.pkg.name) nat_list_cmp_total)
-    (on_total (λ (found : IndexPackage). found.pkg.version) version_cmp_total)
+    (on_total (λ (stanza : IndexPackage). stanza.pkg.name) nat_list_cmp_total)
+    (on_total (λ (stanza : IndexPackage). stanza.pkg.version) version_cmp_total)
 
 pub place_cmp_total : IsTotalOrder place_cmp
 place_cmp_total = on_total (λ (place : Place). place.listed) listed_cmp_total

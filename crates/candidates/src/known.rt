@@ -14,10 +14,10 @@ use rules::name_cmp;
 use std::cmp::Ordering;
 
 // How the name of the record compares with a name.
-fn order_to(found: &Recorded<'_, '_>, name: &[u8]) -> Ordering
-    ensures { result ≡ name_cmp found.now.name name.now }
+fn order_to(entry: &Recorded<'_, '_>, name: &[u8]) -> Ordering
+    ensures { result ≡ name_cmp entry.now.name name.now }
 {
-    name_cmp(found.name(), name)
+    name_cmp(entry.name(), name)
 }
 
 /// The record of the name. A binary search.
@@ -28,7 +28,7 @@ pub fn record_of<'k, 's, 'a>(
     requires { IsStrictlySortedBy record_cmp known.now }
     ensures { option_copied result ≡ find (is_named name.now) known.now }
 {
-    match known.binary_search_by(|found| order_to(found, name)) {
+    match known.binary_search_by(|entry| order_to(entry, name)) {
         Ok(place) => known.get(place),
         Err(_) => None,
     }
@@ -41,7 +41,7 @@ pub fn is_free(known: &[Recorded<'_, '_>], name: &[u8], version: &Version<'_>) -
 {
     match record_of(known, name) {
         None => true,
-        Some(found) => !found.stands_as(version) && !found.is_held(),
+        Some(entry) => !entry.stands_as(version) && !entry.is_held(),
     }
 }
 
@@ -52,7 +52,7 @@ pub fn is_recorded(known: &[Recorded<'_, '_>], name: &[u8]) -> bool
 {
     match record_of(known, name) {
         None => false,
-        Some(found) => found.is_recorded(),
+        Some(entry) => entry.is_recorded(),
     }
 }
 
@@ -65,16 +65,17 @@ pub fn standing_in<'a>(
 {
     match recorded {
         None => None,
-        Some(found) => found.standing_as(version),
+        Some(entry) => entry.standing_as(version),
     }
 }
 
 /// Whether the version is lower than the one that the record stands in.
 pub fn is_below(recorded: Option<&Recorded<'_, '_>>, version: &Version<'_>) -> bool
-    ensures { result ≡ option_map_or (stands_above version.now) (option_copied recorded.entry) false }
+    ensures { result
+        ≡ option_map_or (stands_above version.now) (option_copied recorded.entry) false }
 {
     match recorded {
         None => false,
-        Some(found) => found.stands_above(version),
+        Some(entry) => entry.stands_above(version),
     }
 }

@@ -1,5 +1,5 @@
 // What the start and the indices have of each name: which versions may be chosen, with the priorities that the preferences
-// give, and the candidate. It stands on `rules`, which says what candidates are, and on `pins`. The main type is `Names`.
+// give, and the candidate. It stands on `rules`, which says what candidates are, and on `pins`. The main type is `NameTable`.
 #![tactic(auto)]
 
 mod known;
@@ -14,9 +14,9 @@ mod rated;
 mod recorded;
 
 pub use known::is_free;
-pub use names::{Names, NamesLeft, OfName};
+pub use names::{NameTable, NamesLeft, OfName};
 pub use of_name::{candidate, eligible};
 pub use of_version::priority;
 pub use offer::{Offer, candidate_of};
-pub use order::{Found, stanza_of};
+pub use order::{OrderedEntry, stanza_of};
 pub use recorded::{Recorded, records_in};

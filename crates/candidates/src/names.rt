@@ -19,7 +19,7 @@ ghost use Rattle.candidates.specs.Stanza.{has_name, has_stanza_name, listed_cmp}
 
 use crate::known::is_recorded;
 use crate::offer::Offer;
-use crate::order::{Found, has_name, in_order};
+use crate::order::{OrderedEntry, has_name, in_order};
 use crate::place::{Place, sorted_places};
 use crate::rated::eligible_at;
 use crate::recorded::{Recorded, by_name};
@@ -32,34 +32,34 @@ use std::marker::Model;
 /// The records of the start by name, and the stanzas of the indices by name and version (deb-version(7)), of those of one
 /// version the earliest first.
 #[derive(Drop)]
-pub struct Names<'s, 'p, 'a> {
+pub struct NameTable<'s, 'p, 'a> {
     known: Vec<Recorded<'s, 'a>>,
     places: Vec<Place<'p, 'a>>,
-    ordered: Vec<Found<'p, 'a>>,
+    ordered: Vec<OrderedEntry<'p, 'a>>,
 }
 
-impl<'s, 'p, 'a> Model for Names<'s, 'p, 'a> {
-    ghost use Rattle.candidates.specs.Names.{InOrder, Names as NamesValue};
+impl<'s, 'p, 'a> Model for NameTable<'s, 'p, 'a> {
+    ghost use Rattle.candidates.specs.Names.{InOrder, NameTable as NameTableValue};
 
-    ghost Value = { NamesValue };
+    ghost Value = { NameTableValue };
 
     ghost view = { λ n. record { known = n.known.items; places = n.places.items; ordered = n.ordered.items } };
 
     ghost invariant = { λ n. InOrder n.known.items n.places.items n.ordered.items };
 }
 
-/// Names that are left of `Names`, in their order.
+/// Names that are left of `NameTable`, in their order.
 #[derive(Drop)]
 pub struct NamesLeft<'n, 's, 'p, 'a> {
     known: &'n [Recorded<'s, 'a>],
     places: &'n [Place<'p, 'a>],
-    ordered: &'n [Found<'p, 'a>],
+    ordered: &'n [OrderedEntry<'p, 'a>],
 }
 
 impl<'n, 's, 'p, 'a> Model for NamesLeft<'n, 's, 'p, 'a> {
-    ghost use Rattle.candidates.specs.Names.{InOrder, Names as NamesValue};
+    ghost use Rattle.candidates.specs.Names.{InOrder, NameTable as NameTableValue};
 
-    ghost Value = { NamesValue };
+    ghost Value = { NameTableValue };
 
     ghost view = { λ n. record { known = n.known.now; places = n.places.now; ordered = n.ordered.now } };
 
@@ -72,7 +72,7 @@ pub struct OfName<'n, 's, 'p, 'a> {
     name: &'a [u8],
     known: &'n [Recorded<'s, 'a>],
     places: &'n [Place<'p, 'a>],
-    ordered: &'n [Found<'p, 'a>],
+    ordered: &'n [OrderedEntry<'p, 'a>],
 }
 
 impl<'n, 's, 'p, 'a> Model for OfName<'n, 's, 'p, 'a> {
@@ -85,20 +85,20 @@ impl<'n, 's, 'p, 'a> Model for OfName<'n, 's, 'p, 'a> {
     ghost invariant = { λ o. InOrder o.known.now o.places.now o.ordered.now };
 }
 
-impl<'s, 'p, 'a> Names<'s, 'p, 'a> {
+impl<'s, 'p, 'a> NameTable<'s, 'p, 'a> {
     /// The names of these records of the start, whose names are distinct, and of the indices. About n log n comparisons of n
     /// records and stanzas. Memory alone can fail.
     pub fn new(
         alloc: Global,
         start: Vec<Recorded<'s, 'a>>,
         indices: &'p [Index<'a>],
-    ) -> Result<Names<'s, 'p, 'a>, AllocError>
+    ) -> Result<NameTable<'s, 'p, 'a>, AllocError>
         ensures { IfOk result (λ names. AreNames start.entry.items (indices_of indices.now) names) }
     {
         let known = by_name(start)?;
         let places = sorted_places(alloc, indices)?;
         let ordered = in_order(alloc, places.as_slice())?;
-        Ok(Names {
+        Ok(NameTable {
             known,
             places,
             ordered,
@@ -143,14 +143,14 @@ fn lesser<'a>(name: &'a [u8], other: &'a [u8]) -> &'a [u8]
 }
 
 // The least of the names, if there is one, where the records and the stanzas are in order.
-fn least_of<'a>(known: &[Recorded<'_, 'a>], ordered: &[Found<'_, 'a>]) -> Option<&'a [u8]>
+fn least_of<'a>(known: &[Recorded<'_, 'a>], ordered: &[OrderedEntry<'_, 'a>]) -> Option<&'a [u8]>
     ensures { option_copied result ≡ least_of known.now ordered.now }
 {
     match (known, ordered) {
         ([], []) => None,
         ([record, ..], []) => Some(record.name()),
-        ([], [found, ..]) => Some(found.name()),
-        ([record, ..], [found, ..]) => Some(lesser(record.name(), found.name())),
+        ([], [stanza, ..]) => Some(stanza.name()),
+        ([record, ..], [stanza, ..]) => Some(lesser(record.name(), stanza.name())),
     }
 }
 
@@ -161,7 +161,7 @@ fn record_count(known: &[Recorded<'_, '_>], name: &[u8]) -> usize
 {
     known
         .iter()
-        .take_while(|found| found.name() == name)
+        .take_while(|entry| entry.name() == name)
         .count()
 }
 
@@ -177,13 +177,13 @@ fn place_count(places: &[Place<'_, '_>], name: &[u8]) -> usize
 }
 
 // How many stanzas at the front have the name.
-fn stanza_count(ordered: &[Found<'_, '_>], name: &[u8]) -> usize
+fn stanza_count(ordered: &[OrderedEntry<'_, '_>], name: &[u8]) -> usize
     ensures value { result ≡ prefix_len (has_stanza_name name.now) ordered.now }
     ensures within { result ≤ length ordered.now }
 {
     ordered
         .iter()
-        .take_while(|found| found.name() == name)
+        .take_while(|stanza| stanza.name() == name)
         .count()
 }
 
@@ -193,9 +193,9 @@ fn split_records<'n, 's, 'a>(
     name: &[u8],
 ) -> (&'n [Recorded<'s, 'a>], &'n [Recorded<'s, 'a>])
     requires ascending { IsStrictlySortedBy record_cmp known.now }
-    requires least { All (λ found. name_cmp found.name name.now ≢ Less) known.now }
+    requires least { All (λ entry. name_cmp entry.name name.now ≢ Less) known.now }
     ensures own { result.0.now ≡ filter (is_named name.now) known.now }
-    ensures left { result.1.now ≡ filter (λ found. not (is_named name.now found)) known.now }
+    ensures left { result.1.now ≡ filter (λ entry. not (is_named name.now entry)) known.now }
 {
     known.split_at(record_count(known, name))
 }
@@ -215,13 +215,14 @@ fn split_places<'n, 'p, 'a>(
 
 // The stanzas of the name, before which none is, and the others.
 fn split_stanzas<'n, 'p, 'a>(
-    ordered: &'n [Found<'p, 'a>],
+    ordered: &'n [OrderedEntry<'p, 'a>],
     name: &[u8],
-) -> (&'n [Found<'p, 'a>], &'n [Found<'p, 'a>])
+) -> (&'n [OrderedEntry<'p, 'a>], &'n [OrderedEntry<'p, 'a>])
     requires ascending { IsStrictlySortedBy listed_cmp ordered.now }
-    requires least { All (λ found. name_cmp found.pkg.name name.now ≢ Less) ordered.now }
+    requires least { All (λ stanza. name_cmp stanza.pkg.name name.now ≢ Less) ordered.now }
     ensures own { result.0.now ≡ filter (has_stanza_name name.now) ordered.now }
-    ensures left { result.1.now ≡ filter (λ found. not (has_stanza_name name.now found)) ordered.now }
+    ensures left { result.1.now
+        ≡ filter (λ stanza. not (has_stanza_name name.now stanza)) ordered.now }
 {
     ordered.split_at(stanza_count(ordered, name))
 }
@@ -229,8 +230,11 @@ fn split_stanzas<'n, 'p, 'a>(
 impl<'n, 's, 'p, 'a> NamesLeft<'n, 's, 'p, 'a> {
     /// The first of the names with what there is of it, and the names behind it. Linear in what there is of the name.
     pub fn split_first(&self) -> Option<(OfName<'n, 's, 'p, 'a>, NamesLeft<'n, 's, 'p, 'a>)>
-        ensures split { MatchOption result ((self.now.known ≡ []) × (self.now.ordered ≡ [])) (λ found. IsSplit self.now found.0 found.1) }
-        ensures fewer { IfSome result (λ found. length found.1.known + length found.1.ordered < length self.now.known + length self.now.ordered) }
+        ensures split { MatchOption result ((self.now.known ≡ []) × (self.now.ordered ≡ []))
+            (λ pair. IsSplit self.now pair.0 pair.1) }
+        ensures fewer { IfSome result
+            (λ pair. length pair.1.known + length pair.1.ordered
+            < length self.now.known + length self.now.ordered) }
     {
         let name = least_of(self.known, self.ordered)?;
         let (known, known_left) = split_records(self.known, name);
@@ -260,7 +264,7 @@ impl<'n, 's, 'p, 'a> OfName<'n, 's, 'p, 'a> {
     }
 
     /// The record of the name at the start, if it has one.
-    pub fn known(&self) -> &'n [Recorded<'s, 'a>]
+    pub fn records(&self) -> &'n [Recorded<'s, 'a>]
         ensures records { result.now ≡ self.now.known }
         ensures ascending { IsStrictlySortedBy record_cmp self.now.known }
     {
@@ -268,7 +272,7 @@ impl<'n, 's, 'p, 'a> OfName<'n, 's, 'p, 'a> {
     }
 
     /// The earliest stanza of each version of the name, ascending by version.
-    pub fn ordered(&self) -> &'n [Found<'p, 'a>]
+    pub fn stanzas(&self) -> &'n [OrderedEntry<'p, 'a>]
         ensures stanzas { result.now ≡ self.now.ordered }
         ensures ascending { IsStrictlySortedBy listed_cmp self.now.ordered }
     {
@@ -280,10 +284,14 @@ impl<'n, 's, 'p, 'a> OfName<'n, 's, 'p, 'a> {
     /// with a priority below 1000 (apt_preferences(5)). About n log n comparisons of the n places of the name, and for each
     /// version what `Prefs::priority` costs. Memory alone can fail.
     pub fn eligible(&self, alloc: Global, prefs: &Prefs) -> Result<Vec<Offer<'a>>, AllocError>
-        ensures ascending { IfOk result (λ offers. IsStrictlySortedBy offer_version_cmp offers.items) }
-        ensures versions { (db : List RecordValue) (indices : List IndexValue) (request : Request) → HasDistinctNames db
+        ensures ascending { IfOk result
+            (λ offers. IsStrictlySortedBy offer_version_cmp offers.items) }
+        ensures versions { (db : List RecordValue) (indices : List IndexValue) (request : Request)
+            → HasDistinctNames db
             → IsAllOf db indices self.now
-            → IfOk result (λ offers. AreEligibleOf (inputs_of db indices prefs.now request) self.now.name offers.items) }
+            → IfOk result
+            (λ offers. AreEligibleOf
+            (inputs_of db indices prefs.now request) self.now.name offers.items) }
     {
         let offers = eligible_at(alloc, prefs, self.known, self.places, self.ordered)?;
         Ok(offers)

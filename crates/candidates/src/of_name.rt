@@ -25,7 +25,7 @@ fn records_named<'s, 'a>(recorded: Vec<Recorded<'s, 'a>>, name: &[u8]) -> Vec<Re
     ensures { result.items ≡ filter (is_named name.now) recorded.entry.items }
 {
     let mut named = recorded;
-    named.retain(|found| found.name() == name);
+    named.retain(|entry| entry.name() == name);
     named
 }
 
@@ -43,7 +43,8 @@ pub fn eligible<'a>(
 ) -> Result<Vec<Offer<'a>>, AllocError>
     requires { HasDistinctNames (records_of (map (λ r. r.now) start.now)) }
     ensures { (request : Request) → IfOk result (λ offers. AreEligibleOf
-        (inputs_of (records_of (map (λ r. r.now) start.now)) (indices_of indices.now) prefs.now request) name.now offers.items) }
+        (inputs_of (records_of (map (λ r. r.now) start.now))
+        (indices_of indices.now) prefs.now request) name.now offers.items) }
 {
     let named = records_named(records_in(alloc, start)?, name);
     let known = by_name(named)?;
@@ -70,8 +71,9 @@ pub fn candidate<'a>(
     name: &[u8],
 ) -> Result<Option<Offer<'a>>, AllocError>
     requires { HasDistinctNames (records_of (map (λ r. r.now) start.now)) }
-    ensures { (request : Request) → IfOk result (λ found. IsCandidateOf
-        (inputs_of (records_of (map (λ r. r.now) start.now)) (indices_of indices.now) prefs.now request) name.now found) }
+    ensures { (request : Request) → IfOk result (λ offer. IsCandidateOf
+        (inputs_of (records_of (map (λ r. r.now) start.now))
+        (indices_of indices.now) prefs.now request) name.now offer) }
 {
     let offers = eligible(alloc, start, indices, prefs, name)?;
     match candidate_of(offers.as_slice()) {

@@ -24,7 +24,7 @@ use std::alloc::{AllocError, Global};
 fn record_named<'s, 'a>(recorded: Vec<Recorded<'s, 'a>>, name: &[u8]) -> Option<Recorded<'s, 'a>>
     ensures { result ≡ find (is_named name.now) recorded.entry.items }
 {
-    recorded.into_iter().find(|found| found.name() == name)
+    recorded.into_iter().find(|entry| entry.name() == name)
 }
 
 // The version of the name that stands, where it is this one.
@@ -37,7 +37,7 @@ fn standing_version<'a>(
 {
     match record_named(recorded, name) {
         None => None,
-        Some(found) => found.standing_as(version),
+        Some(entry) => entry.standing_as(version),
     }
 }
 
@@ -60,7 +60,8 @@ fn priority_from<'a>(
     standing: Option<Version<'a>>,
     places: &[Place<'_, 'a>],
 ) -> Result<Option<i32>, AllocError>
-    ensures { IfOk result (λ priority. IsPriorityFrom prefs.now name.now standing.entry places.now priority) }
+    ensures { IfOk result
+        (λ priority. IsPriorityFrom prefs.now name.now standing.entry places.now priority) }
 {
     let origins = origins_with(alloc, standing.is_some(), places)?;
     match kept_among(standing, places) {
@@ -83,7 +84,8 @@ pub fn priority<'a>(
 ) -> Result<Option<i32>, AllocError>
     requires { HasDistinctNames (records_of (map (λ r. r.now) start.now)) }
     ensures { (request : Request) → IfOk result (λ priority. IsPriorityOf
-        (inputs_of (records_of (map (λ r. r.now) start.now)) (indices_of indices.now) prefs.now request) name.now version.now priority) }
+        (inputs_of (records_of (map (λ r. r.now) start.now))
+        (indices_of indices.now) prefs.now request) name.now version.now priority) }
 {
     let standing = standing_version(records_in(alloc, start)?, name, version);
     let places = version_places(alloc, indices, name, version)?;

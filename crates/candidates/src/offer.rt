@@ -40,7 +40,8 @@ impl<'a> Model for Offer<'a> {
 impl<'a> Offer<'a> {
     /// The version of the name with this priority.
     pub(crate) fn new(name: &'a [u8], version: Version<'a>, priority: i32) -> Offer<'a>
-        ensures { result ≡ record { name = name.now; version = version.entry; priority = priority } }
+        ensures { result
+            ≡ record { name = name.now; version = version.entry; priority = priority } }
     {
         Offer {
             name,
@@ -104,7 +105,9 @@ pub fn eligible_beside<'a>(
     recorded: Option<&Recorded<'_, '_>>,
     offer: Offer<'a>,
 ) -> Option<Offer<'a>>
-    ensures { result ≡ (if is_eligible_beside (option_copied recorded.entry) offer.entry then Some offer.entry else None) }
+    ensures { result
+        ≡ (if is_eligible_beside
+        (option_copied recorded.entry) offer.entry then Some offer.entry else None) }
 {
     if is_eligible_beside(recorded, &offer) {
         Some(offer)

@@ -21,11 +21,11 @@ use std::marker::Model;
 /// A stanza of an index. Stanzas are ordered by the bytes of the name and then by the version (deb-version(7)), and two
 /// of one name and version are equal.
 #[derive(Drop)]
-pub struct Found<'p, 'a> {
+pub struct OrderedEntry<'p, 'a> {
     entry: &'p IndexEntry<'a>,
 }
 
-impl<'p, 'a> Model for Found<'p, 'a> {
+impl<'p, 'a> Model for OrderedEntry<'p, 'a> {
     ghost use Rattle.rules.specs.Step.{IndexPackage as IndexPackageValue};
 
     ghost Value = { IndexPackageValue };
@@ -33,7 +33,7 @@ impl<'p, 'a> Model for Found<'p, 'a> {
     ghost view = { λ f. f.entry.now };
 }
 
-impl<'p, 'a> Found<'p, 'a> {
+impl<'p, 'a> OrderedEntry<'p, 'a> {
     /// The name of the package.
     pub fn name(&self) -> &'a [u8]
         ensures { result.now ≡ self.now.pkg.name }
@@ -56,10 +56,10 @@ impl<'p, 'a> Found<'p, 'a> {
     }
 }
 
-fn found_at<'p, 'a>(place: &Place<'p, 'a>) -> Found<'p, 'a>
+fn ordered_entry<'p, 'a>(place: &Place<'p, 'a>) -> OrderedEntry<'p, 'a>
     ensures { result ≡ place.now.listed }
 {
-    Found {
+    OrderedEntry {
         entry: place.entry(),
     }
 }
@@ -67,60 +67,63 @@ fn found_at<'p, 'a>(place: &Place<'p, 'a>) -> Found<'p, 'a>
 fn stanzas_of<'p, 'a>(
     alloc: Global,
     places: &[Place<'p, 'a>],
-) -> Result<Vec<Found<'p, 'a>>, AllocError>
-    ensures { IfOk result (λ found. found.items ≡ stanzas_of places.now) }
+) -> Result<Vec<OrderedEntry<'p, 'a>>, AllocError>
+    ensures { IfOk result (λ stanzas. stanzas.items ≡ stanzas_of places.now) }
 {
-    places.iter().map(|place| found_at(place)).collect(alloc)
+    places
+        .iter()
+        .map(|place| ordered_entry(place))
+        .collect(alloc)
 }
 
 /// The stanzas of the places, of equal ones the first alone. Linear.
 pub fn in_order<'p, 'a>(
     alloc: Global,
     sorted: &[Place<'p, 'a>],
-) -> Result<Vec<Found<'p, 'a>>, AllocError>
+) -> Result<Vec<OrderedEntry<'p, 'a>>, AllocError>
     requires { IsSorted place_cmp sorted.now }
     ensures { IfOk result (λ ordered. IsOrdered (stanzas_of sorted.now) ordered.items) }
 {
-    let mut found = stanzas_of(alloc, sorted)?;
-    found.dedup();
-    Ok(found)
+    let mut stanzas = stanzas_of(alloc, sorted)?;
+    stanzas.dedup();
+    Ok(stanzas)
 }
 
-fn order_to(found: &Found<'_, '_>, name: &[u8], version: &Version<'_>) -> Ordering
-    ensures { result ≡ pkg_order found.now.pkg name.now version.now }
+fn order_to(stanza: &OrderedEntry<'_, '_>, name: &[u8], version: &Version<'_>) -> Ordering
+    ensures { result ≡ pkg_order stanza.now.pkg name.now version.now }
 {
-    match name_cmp(found.name(), name) {
-        Ordering::Equal => found.version().cmp(version),
+    match name_cmp(stanza.name(), name) {
+        Ordering::Equal => stanza.version().cmp(version),
         decided => decided,
     }
 }
 
 /// The stanza of this version of the name, by a binary search.
 pub fn stanza_of<'k, 'p, 'a>(
-    ordered: &'k [Found<'p, 'a>],
+    ordered: &'k [OrderedEntry<'p, 'a>],
     name: &[u8],
     version: &Version<'_>,
-) -> Option<&'k Found<'p, 'a>>
+) -> Option<&'k OrderedEntry<'p, 'a>>
     requires { IsStrictlySortedBy listed_cmp ordered.now }
     ensures { option_copied result ≡ stanza_of ordered.now name.now version.now }
 {
-    match ordered.binary_search_by(|found| order_to(found, name, version)) {
+    match ordered.binary_search_by(|stanza| order_to(stanza, name, version)) {
         Ok(place) => ordered.get(place),
         Err(_) => None,
     }
 }
 
 /// Whether a stanza has the name, by a binary search.
-pub fn has_name(ordered: &[Found<'_, '_>], name: &[u8]) -> bool
+pub fn has_name(ordered: &[OrderedEntry<'_, '_>], name: &[u8]) -> bool
     requires { IsStrictlySortedBy listed_cmp ordered.now }
     ensures { result ≡ has_name ordered.now name.now }
 {
     ordered
-        .binary_search_by(|found| name_cmp(found.name(), name))
+        .binary_search_by(|stanza| name_cmp(stanza.name(), name))
         .is_ok()
 }
 
-impl PartialEq for Found<'_, '_> {
+impl PartialEq for OrderedEntry<'_, '_> {
     ghost eq = { eq_by_cmp listed_cmp };
 
     ghost laws = { partial_equiv_from_equiv (eq_by_cmp_equiv listed_cmp_total) };
@@ -130,28 +133,28 @@ impl PartialEq for Found<'_, '_> {
     }
 }
 
-impl Eq for Found<'_, '_> {
+impl Eq for OrderedEntry<'_, '_> {
     ghost laws = { eq_by_cmp_equiv listed_cmp_total };
 }
 
-impl PartialOrd for Found<'_, '_> {
+impl PartialOrd for OrderedEntry<'_, '_> {
     ghost partial_cmp = { as_partial_cmp listed_cmp };
 
-    ghost laws = { po listed_cmp_total (λ found other. refl) };
+    ghost laws = { po listed_cmp_total (λ stanza other. refl) };
 
     fn partial_cmp(&self, other: &Self) -> Option<Ordering> {
         Some(self.cmp(other))
     }
 }
 
-impl Ord for Found<'_, '_> {
+impl Ord for OrderedEntry<'_, '_> {
     ghost cmp = { listed_cmp };
 
     ghost total = { listed_cmp_total };
 
-    ghost matches_partial_cmp = { λ found other. refl };
+    ghost matches_partial_cmp = { λ stanza other. refl };
 
-    ghost matches_eq = { λ found other. refl };
+    ghost matches_eq = { λ stanza other. refl };
 
     fn cmp(&self, other: &Self) -> Ordering {
         match name_cmp(self.name(), other.name()) {

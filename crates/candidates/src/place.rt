@@ -146,7 +146,8 @@ fn named_in<'p, 'a>(
     index: &'p Index<'a>,
     name: &[u8],
 ) -> Result<Vec<Place<'p, 'a>>, AllocError>
-    ensures { IfOk result (λ places. places.items ≡ filter (has_place_name name.now) (places_in index.now.index)) }
+    ensures { IfOk result
+        (λ places. places.items ≡ filter (has_place_name name.now) (places_in index.now.index)) }
 {
     let mut places = Vec::new(alloc);
     for entry in index.packages() {
@@ -162,7 +163,9 @@ fn named_places<'p, 'a>(
     indices: &'p [Index<'a>],
     name: &[u8],
 ) -> Result<Vec<Place<'p, 'a>>, AllocError>
-    ensures { IfOk result (λ places. places.items ≡ filter (has_place_name name.now) (places_of (indices_of indices.now))) }
+    ensures { IfOk result
+        (λ places. places.items
+        ≡ filter (has_place_name name.now) (places_of (indices_of indices.now))) }
 {
     let mut places = Vec::new(alloc);
     for index in indices {
@@ -179,7 +182,9 @@ pub fn sorted_named_places<'p, 'a>(
     indices: &'p [Index<'a>],
     name: &[u8],
 ) -> Result<Vec<Place<'p, 'a>>, AllocError>
-    ensures { IfOk result (λ sorted. AreSorted (filter (has_place_name name.now) (places_of (indices_of indices.now))) sorted.items) }
+    ensures { IfOk result
+        (λ sorted. AreSorted
+        (filter (has_place_name name.now) (places_of (indices_of indices.now))) sorted.items) }
 {
     let mut places = named_places(alloc, indices, name)?;
     // The sort is stable, so of equal stanzas the earliest stays in front.
@@ -195,7 +200,9 @@ pub fn version_places<'p, 'a>(
     name: &[u8],
     version: &Version<'_>,
 ) -> Result<Vec<Place<'p, 'a>>, AllocError>
-    ensures { IfOk result (λ places. places.items ≡ with_version name.now version.now (places_of (indices_of indices.now))) }
+    ensures { IfOk result
+        (λ places. places.items
+        ≡ with_version name.now version.now (places_of (indices_of indices.now))) }
 {
     let mut places = named_places(alloc, indices, name)?;
     places.retain(|place| place.is_of(name, version));
@@ -219,8 +226,9 @@ pub fn run_from<'s, 'p, 'a>(
     start: usize,
 ) -> Option<(&'s Place<'p, 'a>, &'s [Place<'p, 'a>])>
     requires { start ≤ length places.now }
-    ensures run { MatchOption result (drop start places.now ≡ []) (λ found. IsNextRun (drop start places.now) found.0.now found.1.now) }
-    ensures within { IfSome result (λ found. start + length found.1.now ≤ length places.now) }
+    ensures run { MatchOption result (drop start places.now ≡ [])
+        (λ pair. IsNextRun (drop start places.now) pair.0.now pair.1.now) }
+    ensures within { IfSome result (λ pair. start + length pair.1.now ≤ length places.now) }
 {
     let left = places.split_at(start).1;
     match left.split_first() {

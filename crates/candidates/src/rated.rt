@@ -11,7 +11,7 @@ ghost use Rattle.candidates.specs.Stanza.{IsOrdered, listed_cmp};
 
 use crate::known::{record_of, standing_in};
 use crate::offer::{Offer, by_version, eligible, eligible_beside};
-use crate::order::{Found, stanza_of};
+use crate::order::{OrderedEntry, stanza_of};
 use crate::place::{Place, run_from};
 use crate::recorded::Recorded;
 use debversion::Version;
@@ -60,7 +60,7 @@ fn offer_from<'a>(
 }
 
 // The text of a version that is kept: that of what stands, or else this one.
-fn kept<'a>(standing: Option<Version<'a>>, version: Version<'a>) -> Version<'a>
+fn kept_text<'a>(standing: Option<Version<'a>>, version: Version<'a>) -> Version<'a>
     ensures { Some result ≡ option_or standing.entry (Some version.entry) }
 {
     match standing {
@@ -84,7 +84,7 @@ fn offer_of<'a>(
     ensures { IfOk result (λ offer. IsOfRun prefs.now standing.entry first.now run.now offer) }
 {
     let origins = origins_with(alloc, standing.is_some(), run)?;
-    let version = kept(standing, version);
+    let version = kept_text(standing, version);
     Ok(offer_from(prefs, first.name(), version, origins.as_slice()))
 }
 
@@ -116,7 +116,9 @@ fn listed_offers<'a>(
 ) -> Result<Vec<Offer<'a>>, AllocError>
     requires known { IsStrictlySortedBy record_cmp known.now }
     requires places { IsSorted place_cmp places.now }
-    ensures { IfOk result (λ offers. AreEligibleAmong (HasPlace places.now) prefs.now known.now places.now offers.items) }
+    ensures { IfOk result
+        (λ offers. AreEligibleAmong
+        (HasPlace places.now) prefs.now known.now places.now offers.items) }
 {
     let mut offers = Vec::new(alloc);
     let mut start = 0;
@@ -131,13 +133,16 @@ fn listed_offers<'a>(
 }
 
 // The version that stands, where no stanza has it.
-fn standing_alone<'a>(ordered: &[Found<'_, '_>], found: &Recorded<'_, 'a>) -> Option<Version<'a>>
+fn standing_alone<'a>(
+    ordered: &[OrderedEntry<'_, '_>],
+    entry: &Recorded<'_, 'a>,
+) -> Option<Version<'a>>
     requires { IsStrictlySortedBy listed_cmp ordered.now }
-    ensures { result ≡ standing_alone ordered.now found.now }
+    ensures { result ≡ standing_alone ordered.now entry.now }
 {
-    match found.standing() {
+    match entry.standing() {
         None => None,
-        Some(version) => match stanza_of(ordered, found.name(), &version) {
+        Some(version) => match stanza_of(ordered, entry.name(), &version) {
             Some(_) => None,
             None => Some(version),
         },
@@ -150,19 +155,21 @@ fn standing_offers<'a>(
     prefs: &Prefs,
     known: &[Recorded<'_, 'a>],
     places: &[Place<'_, 'a>],
-    ordered: &[Found<'_, 'a>],
+    ordered: &[OrderedEntry<'_, 'a>],
 ) -> Result<Vec<Offer<'a>>, AllocError>
     requires known { IsStrictlySortedBy record_cmp known.now }
     requires ordered { IsOrdered (stanzas_of places.now) ordered.now }
-    ensures { IfOk result (λ offers. AreRated (StandsAlone known.now places.now) prefs.now known.now places.now offers.items) }
+    ensures { IfOk result
+        (λ offers. AreRated
+        (StandsAlone known.now places.now) prefs.now known.now places.now offers.items) }
 {
     let from = [Origin::status_file()];
     let mut offers = Vec::new(alloc);
-    for found in known {
-        let Some(version) = standing_alone(ordered, found) else {
+    for entry in known {
+        let Some(version) = standing_alone(ordered, entry) else {
             continue;
         };
-        offers.push(offer_from(prefs, found.name(), version, &from))?;
+        offers.push(offer_from(prefs, entry.name(), version, &from))?;
     }
     Ok(offers)
 }
@@ -174,7 +181,7 @@ pub fn eligible_offers<'a>(
     prefs: &Prefs,
     known: &[Recorded<'_, 'a>],
     places: &[Place<'_, 'a>],
-    ordered: &[Found<'_, 'a>],
+    ordered: &[OrderedEntry<'_, 'a>],
 ) -> Result<Vec<Offer<'a>>, AllocError>
     requires known { IsStrictlySortedBy record_cmp known.now }
     requires places { IsSorted place_cmp places.now }
@@ -194,7 +201,7 @@ pub fn eligible_at<'a>(
     prefs: &Prefs,
     known: &[Recorded<'_, 'a>],
     places: &[Place<'_, 'a>],
-    ordered: &[Found<'_, 'a>],
+    ordered: &[OrderedEntry<'_, 'a>],
 ) -> Result<Vec<Offer<'a>>, AllocError>
     requires known { IsStrictlySortedBy record_cmp known.now }
     requires places { IsSorted place_cmp places.now }

@@ -31,7 +31,7 @@ impl<'p, 'a> Model for Recorded<'p, 'a> {
 
     ghost Value = { RecordValue };
 
-    ghost view = { λ r. r.record.now.found };
+    ghost view = { λ r. r.record.now.status };
 }
 
 impl<'p, 'a> Recorded<'p, 'a> {
@@ -59,7 +59,8 @@ impl<'p, 'a> Recorded<'p, 'a> {
 
     /// The package, if it stands, with its relations. Memory alone can fail. Linear in the stanza.
     pub fn standing_pkg(&self, alloc: Global) -> Result<Option<Pkg<'a>>, AllocError>
-        ensures { IfOk result (λ pkg. pkg ≡ (if stands self.now then Some (pkg_of self.now) else None)) }
+        ensures { IfOk result
+            (λ pkg. pkg ≡ (if stands self.now then Some (pkg_of self.now) else None)) }
     {
         if self.record.stands() {
             let pkg = self.record.pkg(alloc)?;
@@ -170,7 +171,7 @@ impl Eq for Recorded<'_, '_> {
 impl PartialOrd for Recorded<'_, '_> {
     ghost partial_cmp = { as_partial_cmp record_cmp };
 
-    ghost laws = { po record_cmp_total (λ found other. refl) };
+    ghost laws = { po record_cmp_total (λ entry other. refl) };
 
     fn partial_cmp(&self, other: &Self) -> Option<Ordering> {
         Some(self.cmp(other))
@@ -182,9 +183,9 @@ impl Ord for Recorded<'_, '_> {
 
     ghost total = { record_cmp_total };
 
-    ghost matches_partial_cmp = { λ found other. refl };
+    ghost matches_partial_cmp = { λ entry other. refl };
 
-    ghost matches_eq = { λ found other. refl };
+    ghost matches_eq = { λ entry other. refl };
 
     fn cmp(&self, other: &Self) -> Ordering {
         name_cmp(self.name(), other.name())

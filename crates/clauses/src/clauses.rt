@@ -81,7 +81,8 @@ impl Clauses {
     /// Ends the clause.
     pub fn end_clause(&mut self) -> Result<(), AllocError>
         ensures numbers { self.new.numbers ≡ self.old.numbers }
-        ensures ended { OnOk result (self.new.clauses ≡ self.old.clauses ++ self.old.open_clause ∷ []) }
+        ensures ended { OnOk result
+            (self.new.clauses ≡ self.old.clauses ++ self.old.open_clause ∷ []) }
         ensures opened { OnOk result (self.new.open_clause ≡ []) }
         ensures unchanged { OnErr result (self.new ≡ self.old) }
     {
@@ -96,7 +97,7 @@ impl Clauses {
     }
 
     /// How many clauses without an owner come first.
-    pub fn unowned(&self) -> usize {
+    pub fn unowned_count(&self) -> usize {
         self.unowned
     }
 

@@ -79,7 +79,8 @@ impl<T: Copy + Drop> Lists<T> {
 
     /// Ends the list, so that what is pushed next is in the list behind it. An error is want of memory.
     pub fn end(&mut self) -> Result<(), AllocError>
-        ensures ended { OnOk result (self.new.closed ≡ self.old.closed ++ self.old.open_items ∷ []) }
+        ensures ended { OnOk result
+            (self.new.closed ≡ self.old.closed ++ self.old.open_items ∷ []) }
         ensures opened { OnOk result (self.new.open_items ≡ []) }
         ensures unchanged { OnErr result (self.new ≡ self.old) }
     {

@@ -28,32 +28,32 @@ WritesNothing asked = ⊤
 
 module _ {J E : Type 0} (at : Files) (was : Kept J) (files : Option Files) (kept : Option (Kept J)) where
   -- what is left so is left so by what it means
-  pub left_so : (P Q : Leaving J) → ((found : Outcome) → P found files kept → Q found files kept)
+  pub left_so : (P Q : Leaving J) → ((outcome : Outcome) → P outcome files kept → Q outcome files kept)
       → (r : Result Outcome E) → IsLeftWith P at was r files kept → IsLeftWith Q at was r files kept
-  left_so P Q then (Ok found) left = then found left
+  left_so P Q then (Ok outcome) left = then outcome left
   left_so P Q then (Err e) (inl same) = inl same
   left_so P Q then (Err e) (inr behind) = inr (behind.0, then behind.0 behind.1)
 
   -- nothing is changed by an outcome, nor where memory was wanting for it
-  pub all_left : (Says : Outcome → Type 0) (Q : Leaving J) → ((found : Outcome) → Says found → Untouched at was files kept → Q found files kept)
+  pub all_left : (Says : Outcome → Type 0) (Q : Leaving J) → ((outcome : Outcome) → Says outcome → Untouched at was files kept → Q outcome files kept)
       → (r : Result Outcome E) → IfOk r Says → Untouched at was files kept → IsLeftWith Q at was r files kept
-  all_left Says Q then (Ok found) says same = then found says same
+  all_left Says Q then (Ok outcome) says same = then outcome says same
   all_left Says Q then (Err e) says same = inl same
 
   -- as much is left by an outcome as where memory was wanting for it
-  pub left_behind : (Says : Outcome → Type 0) (Q : Leaving J) → ((found : Outcome) → Says found → Q found files kept)
+  pub left_behind : (Says : Outcome → Type 0) (Q : Leaving J) → ((outcome : Outcome) → Says outcome → Q outcome files kept)
       → ((made : Outcome) × Says made) → (r : Result Outcome E) → IfOk r Says → IsLeftWith Q at was r files kept
-  left_behind Says Q then made (Ok found) says = then found says
+  left_behind Says Q then made (Ok outcome) says = then outcome says
   left_behind Says Q then made (Err e) says = inr (made.0, then made.0 made.1)
 
   -- where there is no outcome as much is left as behind one that isn't told
   pub untold : (Q : Leaving J) (r : Result Outcome E) → IsErr r → IsLeftWith Q at was r files kept → IsLeftUntold Q at was files kept
-  untold Q (Ok found) is left = absurd (let e : IsErr {E = E} (Ok found) = is in cc)
+  untold Q (Ok outcome) is left = absurd (let e : IsErr {E = E} (Ok outcome) = is in cc)
   untold Q (Err e) is left = left
 
   -- nothing is changed before an outcome is made
   pub none_left : (Q : Leaving J) (r : Result Outcome E) → IsErr r → Untouched at was files kept → IsLeftWith Q at was r files kept
-  none_left Q (Ok found) is same = absurd (let e : IsErr {E = E} (Ok found) = is in cc)
+  none_left Q (Ok outcome) is same = absurd (let e : IsErr {E = E} (Ok outcome) = is in cc)
   none_left Q (Err e) is same = inl same
 
   -- by what asks for no file that is written nothing is changed
@@ -62,22 +62,22 @@ module _ {J E : Type 0} (at : Files) (was : Kept J) (files : Option Files) (kept
       → IsLeftWith (IsLeftOfAsked honest facts asked at was) at was r files kept
   nothing_left honest facts (ask.compare version word other) quiet r says same =
       all_left (IsOutcomeOfAsked at (ask.compare version word other)) (IsLeftOfAsked honest facts (ask.compare version word other) at was)
-      (λ found is still. (is, still)) r says same
+      (λ outcome is still. (is, still)) r says same
   nothing_left honest facts (ask.candidate given names explains written) quiet r says same =
       all_left (IsOutcomeOfAsked at (ask.candidate given names explains written))
-      (IsLeftOfAsked honest facts (ask.candidate given names explains written) at was) (λ found is still. (is, still)) r says same
+      (IsLeftOfAsked honest facts (ask.candidate given names explains written) at was) (λ outcome is still. (is, still)) r says same
   nothing_left honest facts (ask.solve given request limit extent explains written) quiet r says same = absurd quiet
   nothing_left honest facts (ask.check_plan given request plan explains written) quiet r says same =
       all_left (IsOutcomeOfAsked at (ask.check_plan given request plan explains written))
-      (IsLeftOfAsked honest facts (ask.check_plan given request plan explains written) at was) (λ found is still. (is, still)) r says same
+      (IsLeftOfAsked honest facts (ask.check_plan given request plan explains written) at was) (λ outcome is still. (is, still)) r says same
   nothing_left honest facts (ask.check_refutation given request refutation explains written) quiet r says same =
       all_left (IsOutcomeOfAsked at (ask.check_refutation given request refutation explains written))
-      (IsLeftOfAsked honest facts (ask.check_refutation given request refutation explains written) at was) (λ found is still. (is, still)) r says same
+      (IsLeftOfAsked honest facts (ask.check_refutation given request refutation explains written) at was) (λ outcome is still. (is, still)) r says same
   nothing_left honest facts (ask.apply given request plan journal output) quiet r says same = absurd quiet
   nothing_left honest facts (ask.installable given survey folder explains written) quiet r says same = absurd quiet
   nothing_left honest facts (ask.batch given limit) quiet r says same =
       all_left (IsOutcomeOfAsked at (ask.batch given limit)) (IsLeftOfAsked honest facts (ask.batch given limit) at was)
-      (λ found is still. (is, still)) r says same
+      (λ outcome is still. (is, still)) r says same
 
   -- behind a plan that isn't good nothing is changed
   pub unready_left : (honest : J → Type 0) (facts : J → DiskFacts) (said : Result Prepared Refusal) (journal output : List ℕ) → IsUnready said
@@ -85,8 +85,8 @@ module _ {J E : Type 0} (at : Files) (was : Kept J) (files : Option Files) (kept
       → IsLeftWith (IsLeftOfPrepared honest facts said journal output at was) at was r files kept
   unready_left honest facts (Ok (Judged verdict)) journal output unready r says same =
       all_left (IsOutcomeOfPrepared (Ok (Judged verdict))) (IsLeftOfPrepared honest facts (Ok (Judged verdict)) journal output at was)
-      (λ found is still. (is, still)) r says same
+      (λ outcome is still. (is, still)) r says same
   unready_left honest facts (Ok (Ready plan)) journal output unready r says same = absurd unready
   unready_left honest facts (Err refused) journal output unready r says same =
       all_left (IsOutcomeOfPrepared (Err refused)) (IsLeftOfPrepared honest facts (Err refused) journal output at was)
-      (λ found is still. (is, still)) r says same
+      (λ outcome is still. (is, still)) r says same

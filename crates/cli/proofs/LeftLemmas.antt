@@ -15,6 +15,7 @@ use Rattle.outcomes.specs.Exit.{exit_of_begin_error, exit_of_run_error}
 use Rattle.outcomes.specs.declared.exit.Exit.TheVariants as exit
 use Rattle.outcomes.specs.declared.outcome.Outcome.{Outcome}
 use Rattle.outcomes.specs.declared.outcome.Outcome.TheVariants as outcome
+use Rattle.refusal_lines.specs.Lines.{stopped_line, unbegun_line}
 
 module _ {J : Type 0} (journal : List ℕ) (at : Files) (was : Kept J) where
   module _ (honest : J → Type 0) (facts : J → DiskFacts) (plan : ReadyPlan) where
@@ -29,8 +30,8 @@ module _ {J : Type 0} (journal : List ℕ) (at : Files) (was : Kept J) where
     -- behind a run that was stopped
     pub stop_left : (output : List ℕ) (stop : Stop) (mine yours : J) (mid : Kept J) (files : Option Files) (kept : Option (Kept J))
         → IsLent journal mine was mid → IsRunThrough honest facts plan mine (Err stop) yours → files ≡ Some at → GivesBack journal yours mid kept
-        → (found : Outcome) → IsOutcomeOfStop stop found → IsLeftOfReady honest facts plan journal output at was found files kept
-    stop_left output stop mine yours mid files kept lent through f back found printed = record {
+        → (outcome : Outcome) → IsOutcomeOfStop stop outcome → IsLeftOfReady honest facts plan journal output at was outcome files kept
+    stop_left output stop mine yours mid files kept lent through f back outcome printed = record {
       run = Err stop;
       left = back.0;
       kept_is = back.1;
@@ -43,8 +44,8 @@ module _ {J : Type 0} (journal : List ℕ) (at : Files) (was : Kept J) where
     of_status : {A E : Type 0} (output : List ℕ) (done : CarriedOut) (mine yours : J) (mid : Kept J) (r : Result A E) (files : Option Files)
         (kept : Option (Kept J)) → IsLent journal mine was mid → IsRunThrough honest facts plan mine (Ok done) yours
         → Puts output done.status.items at r files → Finishes journal yours output done.status.items mid r kept
-        → (found : Outcome) → IsOutcomeOfPut done.steps r found → IsLeftOfReady honest facts plan journal output at was found files kept
-    of_status output done mine yours mid (Ok put_is) files kept lent through put back found printed = record {
+        → (outcome : Outcome) → IsOutcomeOfPut done.steps r outcome → IsLeftOfReady honest facts plan journal output at was outcome files kept
+    of_status output done mine yours mid (Ok put_is) files kept lent through put back outcome printed = record {
       run = Ok done;
       left = back.0;
       kept_is = back.1;
@@ -57,7 +58,7 @@ module _ {J : Type 0} (journal : List ℕ) (at : Files) (was : Kept J) where
             ∙ ap (λ (ps : List Put). ps ++ record { path = output; text = done.status.items; held = Some journal } ∷ []) lent.puts,
       );
     }
-    of_status output done mine yours mid (Err e) files kept lent through put back found printed = record {
+    of_status output done mine yours mid (Err e) files kept lent through put back outcome printed = record {
       run = Ok done;
       left = back.0;
       kept_is = back.1;
@@ -69,39 +70,35 @@ module _ {J : Type 0} (journal : List ℕ) (at : Files) (was : Kept J) where
     pub done_left : {A E : Type 0} (output text : List ℕ) (done : CarriedOut) (mine yours : J) (mid : Kept J) (r : Result A E) (files : Option Files)
         (kept : Option (Kept J)) → text ≡ done.status.items → IsLent journal mine was mid → IsRunThrough honest facts plan mine (Ok done) yours
         → Puts output text at r files → Finishes journal yours output text mid r kept
-        → (found : Outcome) → IsOutcomeOfPut done.steps r found → IsLeftOfReady honest facts plan journal output at was found files kept
-    done_left output text done mine yours mid r files kept same lent through put back found printed =
+        → (outcome : Outcome) → IsOutcomeOfPut done.steps r outcome → IsLeftOfReady honest facts plan journal output at was outcome files kept
+    done_left output text done mine yours mid r files kept same lent through put back outcome printed =
         of_status output done mine yours mid r files kept lent through (subst (λ (t : List ℕ). Puts output t at r files) same put)
-        (subst (λ (t : List ℕ). Finishes journal yours output t mid r kept) same back) found printed
+        (subst (λ (t : List ℕ). Finishes journal yours output t mid r kept) same back) outcome printed
 
 -- what is printed of a plan that was carried out
-pub run_of_put : {A E : Type 0} (plan : ReadyPlan) (done : CarriedOut) (r : Result A E) → IsCarriedOut plan done → (found : Outcome)
-    → IsOutcomeOfPut done.steps r found → IsOutcomeOfReady plan found
-run_of_put plan done (Ok put_is) carried found is = (Ok done, carried, inl is)
-run_of_put plan done (Err e) carried found is = (Ok done, carried, inr is)
+pub run_of_put : {A E : Type 0} (plan : ReadyPlan) (done : CarriedOut) (r : Result A E) → IsCarriedOut plan done → (outcome : Outcome)
+    → IsOutcomeOfPut done.steps r outcome → IsOutcomeOfReady plan outcome
+run_of_put plan done (Ok put_is) carried outcome is = (Ok done, carried, inl is)
+run_of_put plan done (Err e) carried outcome is = (Ok done, carried, inr is)
 
 -- behind a request that was put
-pub put_where : {A E : Type 0} (path : List ℕ) (printed : Outcome) (r : Result A E) (found : Outcome) → IsPrintedOfPut r printed found
-    → IsPrintedWhere (Some path) printed found
-put_where path printed (Ok done) found is = inl is
-put_where path printed (Err e) found is = inr is
+pub put_where : {A E : Type 0} (path : List ℕ) (printed : Outcome) (r : Result A E) (outcome : Outcome) → IsPrintedOfPut r printed outcome
+    → IsPrintedWhere (Some path) printed outcome
+put_where path printed (Ok done) outcome is = inl is
+put_where path printed (Err e) outcome is = inr is
 
 module _ {J : Type 0} {A E : Type 0} (path text : List ℕ) (at : Files) (was : Kept J) where
   pub put_left : (printed : Outcome) (r : Result A E) (files : Option Files) (kept : Option (Kept J)) → Puts path text at r files → NotesPut path text was r kept
-      → (found : Outcome) → IsPrintedOfPut r printed found → IsLeftOfKept (Some path) text printed at was found files kept
-  put_left printed (Ok done) files kept put noted found is = inl (is, (put, noted))
-  put_left printed (Err e) files kept put noted found is = inr (is, (put, noted))
+      → (outcome : Outcome) → IsPrintedOfPut r printed outcome → IsLeftOfKept (Some path) text printed at was outcome files kept
+  put_left printed (Ok done) files kept put noted outcome is = inl (is, (put, noted))
+  put_left printed (Err e) files kept put noted outcome is = inr (is, (put, noted))
 
 -- Something is printed of each
 
--- a line that names the program
-abbrev line : List ℕ
-line = codes "debplan: " ++ ([] ++ codes "\n")
-
 -- of what stood against a plan
 pub some_of_stop : (stop : Stop) → (made : Outcome) × IsOutcomeOfStop stop made
-some_of_stop (NotBegun e) = (outcome.Complaint line (exit_of_begin_error e), (line, refl, ([], refl)))
-some_of_stop (Stopped e) = (outcome.Complaint line (exit_of_run_error e), (line, refl, ([], refl)))
+some_of_stop (NotBegun e) = (outcome.Complaint (unbegun_line e) (exit_of_begin_error e), refl)
+some_of_stop (Stopped e) = (outcome.Complaint (stopped_line e) (exit_of_run_error e), refl)
 
 -- of a plan that was carried out
 pub some_of_put : {A E : Type 0} (steps : ℕ) (r : Result A E) → (made : Outcome) × IsOutcomeOfPut steps r made

@@ -35,13 +35,13 @@ module _ {J : Type 0} where
       → IfOk r (IsPutOutcome put file.path) → IfErr r (λ _. IsErr put) → IsLeftOfFile file at was r files kept
   file_left file (Ok done) (Ok None) at was files kept puts notes is failed =
       (puts.0, notes.0, puts.2, notes.2, (puts.1, notes.1))
-  file_left {E} file (Ok done) (Ok (Some found)) at was files kept puts notes is failed =
+  file_left {E} file (Ok done) (Ok (Some outcome)) at was files kept puts notes is failed =
       absurd (let e : IsErr {E = E} (Ok done) = is.0 in cc)
   file_left {E} file (Ok done) (Err e) at was files kept puts notes is failed =
       absurd (let e : IsErr {E = E} (Ok done) = failed in cc)
   file_left {A} file (Err e) (Ok None) at was files kept puts notes is failed =
       absurd (let e : IsOk {T = A} (Err e) = is in cc)
-  file_left file (Err e) (Ok (Some found)) at was files kept puts notes is failed = (is.1, (puts, notes))
+  file_left file (Err e) (Ok (Some outcome)) at was files kept puts notes is failed = (is.1, (puts, notes))
   file_left file (Err e) (Err f) at was files kept puts notes is failed = (puts, notes)
 
   -- what is known behind files that were put
@@ -54,15 +54,15 @@ module _ {J : Type 0} where
   pub none_of_file : (file : Placed) (said : Option Outcome) (at : Files) (was : Kept J) (files : Option Files)
       (kept : Option (Kept J)) → said ≡ None → IsToldOfFile file at was said files kept → ArePut (file ∷ []) at was files kept
   none_of_file file None at was files kept is left = left
-  none_of_file file (Some found) at was files kept is left = absurd (let e : Some found ≡ None = is in cc)
+  none_of_file file (Some outcome) at was files kept is left = absurd (let e : Some outcome ≡ None = is in cc)
 
   -- what is printed is that it couldn't be written
-  pub some_of_file : (file : Placed) (said : Option Outcome) (found : Outcome) (at : Files) (was : Kept J)
-      (files : Option Files) (kept : Option (Kept J)) → said ≡ Some found → IsToldOfFile file at was said files kept
-      → IsFileUnwritten file.path found × Untouched at was files kept
-  some_of_file file None found at was files kept is left = absurd (let e : None ≡ Some found = is in cc)
-  some_of_file file (Some other) found at was files kept is left =
-      (subst (IsFileUnwritten file.path) (let e : Some other ≡ Some found = is in cc) left.0, left.1)
+  pub some_of_file : (file : Placed) (said : Option Outcome) (outcome : Outcome) (at : Files) (was : Kept J)
+      (files : Option Files) (kept : Option (Kept J)) → said ≡ Some outcome → IsToldOfFile file at was said files kept
+      → IsFileUnwritten file.path outcome × Untouched at was files kept
+  some_of_file file None outcome at was files kept is left = absurd (let e : None ≡ Some outcome = is in cc)
+  some_of_file file (Some other) outcome at was files kept is left =
+      (subst (IsFileUnwritten file.path) (let e : Some other ≡ Some outcome = is in cc) left.0, left.1)
 
   -- where memory was wanting for one of them, those before it were put
   pub err_of_files : {E : Type 0} (all : List Placed) (r : Result (Option Outcome) E) (at : Files) (was : Kept J) (files : Option Files)
@@ -74,22 +74,22 @@ module _ {J : Type 0} where
   pub none_of_files : (all : List Placed) (said : Option Outcome) (at : Files) (was : Kept J) (files : Option Files)
       (kept : Option (Kept J)) → said ≡ None → IsToldOfFiles all at was said files kept → ArePut all at was files kept
   none_of_files all None at was files kept is left = left
-  none_of_files all (Some found) at was files kept is left = absurd (let e : Some found ≡ None = is in cc)
+  none_of_files all (Some outcome) at was files kept is left = absurd (let e : Some outcome ≡ None = is in cc)
 
   -- what is printed is that one of them couldn't be written
-  pub some_of_files : (all : List Placed) (said : Option Outcome) (found : Outcome) (at : Files) (was : Kept J)
-      (files : Option Files) (kept : Option (Kept J)) → said ≡ Some found → IsToldOfFiles all at was said files kept
-      → (stopped : IsStopped all at was files kept) × IsFileUnwritten stopped.file.path found
-  some_of_files all None found at was files kept is left = absurd (let e : None ≡ Some found = is in cc)
-  some_of_files all (Some other) found at was files kept is left =
+  pub some_of_files : (all : List Placed) (said : Option Outcome) (outcome : Outcome) (at : Files) (was : Kept J)
+      (files : Option Files) (kept : Option (Kept J)) → said ≡ Some outcome → IsToldOfFiles all at was said files kept
+      → (stopped : IsStopped all at was files kept) × IsFileUnwritten stopped.file.path outcome
+  some_of_files all None outcome at was files kept is left = absurd (let e : None ≡ Some outcome = is in cc)
+  some_of_files all (Some other) outcome at was files kept is left =
       subst (λ (one : Outcome). (stopped : IsStopped all at was files kept) × IsFileUnwritten stopped.file.path one)
-      (let e : Some other ≡ Some found = is in cc) left
+      (let e : Some other ≡ Some outcome = is in cc) left
 
   -- where memory was wanting for a file, as much is left as where it couldn't be written
   pub stopped_left : {E : Type 0} (folder : List ℕ) (written : Format) (surveyed : Surveyed) (at : Files) (was : Kept J) (files : Option Files)
       (kept : Option (Kept J)) (r : Result Outcome E) → IsErr r → IsStopped (files_of_survey folder surveyed) at was files kept
       → IsLeftWith (IsLeftOfSurveyIn (Some folder) written (Ok surveyed) at was) at was r files kept
-  stopped_left {E} folder written surveyed at was files kept (Ok found) is stopped = absurd (let e : IsErr {E = E} (Ok found) = is in cc)
+  stopped_left {E} folder written surveyed at was files kept (Ok outcome) is stopped = absurd (let e : IsErr {E = E} (Ok outcome) = is in cc)
   stopped_left folder written surveyed at was files kept (Err e) is stopped =
       inr (outcome.Complaint (codes "debplan: " ++ (stopped.file.path ++ codes ": E26 Write\n")) exit.Device, inr (stopped, refl))
 
@@ -97,7 +97,7 @@ module _ {J : Type 0} where
 pub file_printed : {A E F : Type 0} (path : List ℕ) (put : Result A E) (r : Result (Option Outcome) F) → IfOk r (IsPutOutcome put path)
     → IfOk r IsUnwritten
 file_printed path put (Ok None) is = tt
-file_printed path put (Ok (Some found)) is = (path, is.1)
+file_printed path put (Ok (Some outcome)) is = (path, is.1)
 file_printed path put (Err e) is = tt
 
 -- a list is cut at one of its items

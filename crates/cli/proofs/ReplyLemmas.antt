@@ -2,8 +2,9 @@
 use Rattle.std.proofs.Common.{◌≡◌, Err, Global, IfOk, List, Ok, Result, Vec, subst, ℕ}
 use Rattle.candidates.specs.Inputs.{indices_of}
 use Rattle.cli.proofs.ResultLemmas.{if_ok}
-use Rattle.cli.specs.Batch.{IsRefusedReply, IsReplyOf, IsReplyWhere, with_id}
-use Rattle.documents.specs.Document.{IsLineOf, object_with}
+use Rattle.refusal_lines.specs.Lines.{refusal_words}
+use Rattle.cli.specs.Batch.{IsRefusedIn, IsReplyOf, IsReplyWhere, with_id}
+use Rattle.json_answers.specs.Document.{IsLineOf, object_with}
 use Rattle.inputs.proofs.ReadAsLemmas.{read-asking}
 use Rattle.inputs.specs.ReadAs.{AreReadAs, asking, start_of}
 use Rattle.inputs.specs.Texts.{Texts}
@@ -44,7 +45,7 @@ module _ {A E : Type 0} (id : Data) (Says : Result A Refusal → Type 0) (text_o
 
   -- the reply of a refusal that is said
   pub replied_err : (said : Result A Refusal) (refused : Refusal) (r : Result (Vec ℕ Global) E) → said ≡ Err refused → Says said
-      → IfOk r (λ reply. IsRefusedReply id reply.items) → IfOk r (λ reply. IsReplyWhere id Says text_of AreOf reply.items)
+      → IfOk r (λ reply. IsRefusedIn id (refusal_words refused) reply.items) → IfOk r (λ reply. IsReplyWhere id Says text_of AreOf reply.items)
   replied_err said refused r is says made =
-      if_ok r (λ reply. IsRefusedReply id reply.items) (λ reply. IsReplyWhere id Says text_of AreOf reply.items)
+      if_ok r (λ reply. IsRefusedIn id (refusal_words refused) reply.items) (λ reply. IsReplyWhere id Says text_of AreOf reply.items)
       (λ reply replies. (Err refused, subst Says is says, replies)) made

@@ -44,38 +44,38 @@ IsRunThrough {J} honest facts plan old (Ok done) new = IsCarriedOut plan done ×
 
 -- the outcome is that of a plan against which this stood
 abbrev pub IsOutcomeOfStop : Stop → Outcome → Type 0
-IsOutcomeOfStop (NotBegun e) found = IsOutcomeOfUnbegun e found
-IsOutcomeOfStop (Stopped e) found = IsOutcomeOfStopped e found
+IsOutcomeOfStop (NotBegun e) outcome = IsOutcomeOfUnbegun e outcome
+IsOutcomeOfStop (Stopped e) outcome = IsOutcomeOfStopped e outcome
 
 -- What is printed
 
 -- the outcome is that of a plan of so many steps that was carried out: their number where its status text was put, or that it couldn't
 -- be written
 abbrev pub IsOutcomeOfPut : {A E : Type 0} → ℕ → Result A E → Outcome → Type 0
-IsOutcomeOfPut steps (Ok done) found = found ≡ outcome.Answer (applied_line steps) exit.Success
-IsOutcomeOfPut steps (Err e) found = IsUnwritten found
+IsOutcomeOfPut steps (Ok done) printed = printed ≡ outcome.Answer (applied_line steps) exit.Success
+IsOutcomeOfPut steps (Err e) printed = IsUnwritten printed
 
 -- the outcome is that of the run: the number of the steps of a plan that was carried out, or that the output couldn't be written; or
 -- what stood against it
 abbrev pub IsOutcomeOfRun : Result CarriedOut Stop → Outcome → Type 0
-IsOutcomeOfRun (Ok done) found = (found ≡ outcome.Answer (applied_line done.steps) exit.Success) ⊎ IsUnwritten found
-IsOutcomeOfRun (Err stop) found = IsOutcomeOfStop stop found
+IsOutcomeOfRun (Ok done) printed = (printed ≡ outcome.Answer (applied_line done.steps) exit.Success) ⊎ IsUnwritten printed
+IsOutcomeOfRun (Err stop) printed = IsOutcomeOfStop stop printed
 
 -- the outcome is that of a good plan that is run
 abbrev pub IsOutcomeOfReady : ReadyPlan → Outcome → Type 0
-IsOutcomeOfReady plan found = (run : Result CarriedOut Stop) × IfOk run (IsCarriedOut plan) × IsOutcomeOfRun run found
+IsOutcomeOfReady plan outcome = (run : Result CarriedOut Stop) × IfOk run (IsCarriedOut plan) × IsOutcomeOfRun run outcome
 
 -- the outcome is that of a good plan: of its run, or of words that name an index as another file too
 abbrev pub IsOutcomeOfGood : ReadyPlan → Outcome → Type 0
-IsOutcomeOfGood plan found = IsOutcomeOfOneFile found ⊎ IsOutcomeOfReady plan found
+IsOutcomeOfGood plan outcome = IsOutcomeOfOneFile outcome ⊎ IsOutcomeOfReady plan outcome
 
 -- the outcome is that of what is said of the plan
 abbrev pub IsOutcomeOfPrepared : Result Prepared Refusal → Outcome → Type 0
-IsOutcomeOfPrepared (Ok (Judged verdict)) found = found ≡ outcome.Answer (verdict_line verdict) (exit_of_verdict verdict)
-IsOutcomeOfPrepared (Ok (Ready plan)) found = IsOutcomeOfGood plan found
-IsOutcomeOfPrepared (Err refused) found = IsOutcomeOfRefusal refused found
+IsOutcomeOfPrepared (Ok (Judged verdict)) printed = printed ≡ outcome.Answer (verdict_line verdict) (exit_of_verdict verdict)
+IsOutcomeOfPrepared (Ok (Ready plan)) printed = IsOutcomeOfGood plan printed
+IsOutcomeOfPrepared (Err refused) printed = IsOutcomeOfRefusal refused printed
 
 -- the outcome is that of what is said of the plan by the texts, or of words that name one file in two places
 abbrev pub IsOutcomeOfPlanTaken : Texts → Found → Outcome → Type 0
-IsOutcomeOfPlanTaken texts plan found = IsOutcomeOfOneFile found
-    ⊎ ((said : Result Prepared Refusal) × IsSaidOfPrepared texts plan said × IsOutcomeOfPrepared said found)
+IsOutcomeOfPlanTaken texts plan outcome = IsOutcomeOfOneFile outcome
+    ⊎ ((said : Result Prepared Refusal) × IsSaidOfPrepared texts plan said × IsOutcomeOfPrepared said outcome)

@@ -14,7 +14,7 @@ use Rattle.cli_engine.specs.declared.solve.Answered.{Answered}
 use Rattle.command_line.specs.Asked.{Survey}
 use Rattle.conversation.specs.Conversation.{AreHeard}
 use Rattle.conversation.specs.declared.ended.Ended.{Ended}
-use Rattle.documents.specs.Document.{IsLineOf, object_with, refused_with}
+use Rattle.json_answers.specs.Document.{IsLineOf, object_with, refused_with}
 use Rattle.inputs.specs.Before.{IsRefusalBefore}
 use Rattle.inputs.specs.ReadAs.{asking}
 use Rattle.inputs.specs.Texts.{Found, Texts}
@@ -25,6 +25,7 @@ use Rattle.keep_back.specs.declared.keep_back.KeptBack.{KeptBack}
 use Rattle.outcomes.specs.Answer.{candidate_lines, refutation_line, solved_text, verdict_line}
 use Rattle.outcomes.specs.Exit.{exit_of_ended}
 use Rattle.outcomes.specs.Outcome.{IsOutcomeOfRefusal}
+use Rattle.refusal_lines.specs.Lines.{refusal_words}
 use Rattle.outcomes.specs.Survey.{survey_text, with_survey}
 use Rattle.outcomes.specs.declared.exit.Exit.TheVariants as exit
 use Rattle.outcomes.specs.declared.outcome.Outcome.{Outcome}
@@ -43,14 +44,18 @@ with_id id others = put (codes "id") id others
 abbrev pub IsReplyOf : Data → List ℕ → (Members → Type 0) → List ℕ → Type 0
 IsReplyOf id text Are reply = (all : Members) × Are all × IsLineOf (object_with text (with_id id all)) reply
 
--- the reply is the document of a refusal in some words, with the value
+-- the reply is the document of a refusal in these words, with the value
+abbrev pub IsRefusedIn : Data → List ℕ → List ℕ → Type 0
+IsRefusedIn id words reply = IsLineOf (refused_with words (with_id id no_members)) reply
+
+-- so in some words
 abbrev pub IsRefusedReply : Data → List ℕ → Type 0
-IsRefusedReply id reply = (words : List ℕ) × IsLineOf (refused_with words (with_id id no_members)) reply
+IsRefusedReply id reply = (words : List ℕ) × IsRefusedIn id words reply
 
 -- the reply is that of what is said: the document of the answer, or of the refusal
 abbrev pub IsReplyOfSaid : {A : Type 0} → Data → (A → List ℕ) → (A → Members → Type 0) → Result A Refusal → List ℕ → Type 0
 IsReplyOfSaid id text_of AreOf (Ok answer) reply = IsReplyOf id (text_of answer) (AreOf answer) reply
-IsReplyOfSaid id text_of AreOf (Err refused) reply = IsRefusedReply id reply
+IsReplyOfSaid id text_of AreOf (Err refused) reply = IsRefusedIn id (refusal_words refused) reply
 
 -- something is said so, and the reply is that of it
 abbrev pub IsReplyWhere : {A : Type 0} → Data → (Result A Refusal → Type 0) → (A → List ℕ) → (A → Members → Type 0) → List ℕ → Type 0
@@ -103,19 +108,19 @@ abbrev pub question_bytes : ℕ
 question_bytes = 67108864
 
 -- the questions, which are there, were heard: what was said in reply is printed, with the status of how that ended
-pub record IsOutcomeOfReplies (texts : Texts) (limit : ℕ) (questions : Found) (found : Outcome) : Type 0 where
+pub record IsOutcomeOfReplies (texts : Texts) (limit : ℕ) (questions : Found) (made : Outcome) : Type 0 where
   pub text : List ℕ
   pub said : List ℕ
   pub how : Ended
   pub there : questions ≡ Some text
   pub heard : AreHeard question_bytes (IsReplyToLine texts limit) (Some text) said how
-  pub printed : found ≡ outcome.Answer said (exit_of_ended how)
+  pub printed : made ≡ outcome.Answer said (exit_of_ended how)
 
 -- the questions can't be read
 abbrev pub IsOutcomeOfUnread : Found → Outcome → Type 0
-IsOutcomeOfUnread questions found = (questions ≡ None) × (found ≡ outcome.Complaint (codes "debplan: questions: E5 Read\n") exit.Device)
+IsOutcomeOfUnread questions printed = (questions ≡ None) × (printed ≡ outcome.Complaint (codes "debplan: questions: E5 Read\n") exit.Device)
 
 -- the outcome is that of the replies; or nothing is answered, since the questions can't be read, or for the first refusal before a request
 abbrev pub IsOutcomeOfBatch : Texts → ℕ → Found → Outcome → Type 0
-IsOutcomeOfBatch texts limit questions found = IsOutcomeOfReplies texts limit questions found ⊎ IsOutcomeOfUnread questions found
-    ⊎ ((refused : Refusal) × IsRefusalBefore texts refused × IsOutcomeOfRefusal refused found)
+IsOutcomeOfBatch texts limit questions outcome = IsOutcomeOfReplies texts limit questions outcome ⊎ IsOutcomeOfUnread questions outcome
+    ⊎ ((refused : Refusal) × IsRefusalBefore texts refused × IsOutcomeOfRefusal refused outcome)

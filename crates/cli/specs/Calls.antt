@@ -44,8 +44,8 @@ IsSaidOfVersions version relation other (Err refused) = comparison_refusal versi
 -- it is what is printed, in this format, of something that is said, and in a document with these members of an answer
 abbrev pub IsPrintedOf : {A : Type 0} → (Result A Refusal → Type 0) → (Result A Refusal → Outcome → Type 0) → (A → Members → Type 0)
     → Format → Outcome → Type 0
-IsPrintedOf {A} Says Prints AreOf written found = (said : Result A Refusal) × (plain : Outcome) × (members : Members)
-    × Says said × Prints said plain × AreMembersOf AreOf written said members × IsOutcomeIn written members plain found
+IsPrintedOf {A} Says Prints AreOf written outcome = (said : Result A Refusal) × (plain : Outcome) × (members : Members)
+    × Says said × Prints said plain × AreMembersOf AreOf written said members × IsOutcomeIn written members plain outcome
 
 -- the outcome is that of what is said of the names by the texts
 abbrev pub IsOutcomeOfNames : Texts → List Text → Format → Outcome → Type 0
@@ -67,27 +67,27 @@ IsOutcomeOfLines texts lines = IsPrintedOf {A = JudgedRefutation} (IsSaidOf text
 
 -- the outcome is that of what is said of the versions
 abbrev pub IsOutcomeOfVersions : Text → Comparison → Text → Outcome → Type 0
-IsOutcomeOfVersions version relation other found =
-    (said : Result Bool Refusal) × IsSaidOfVersions version relation other said × IsOutcomeOfComparison said found
+IsOutcomeOfVersions version relation other outcome =
+    (said : Result Bool Refusal) × IsSaidOfVersions version relation other said × IsOutcomeOfComparison said outcome
 
 -- the outcome is that of what is said of all of the request, or of as much of it as can be
 abbrev pub IsOutcomeOfExtent : Texts → ℕ → Extent → Format → Outcome → Type 0
-IsOutcomeOfExtent texts limit (ask.whole names_pairs) written found = IsOutcomeOfRequest texts limit names_pairs written found
-IsOutcomeOfExtent texts limit (ask.possible output) written found = IsOutcomeOfPossible texts limit output written found
+IsOutcomeOfExtent texts limit (ask.whole names_pairs) written outcome = IsOutcomeOfRequest texts limit names_pairs written outcome
+IsOutcomeOfExtent texts limit (ask.possible output) written outcome = IsOutcomeOfPossible texts limit output written outcome
 
 -- the outcome is that of what is said in answer to what is asked for
 abbrev pub IsOutcomeOfAsked : Files → Asked → Outcome → Type 0
-IsOutcomeOfAsked files (ask.compare version word other) found = IsOutcomeOfVersions version (comparison_of word) other found
-IsOutcomeOfAsked files (ask.candidate given names explains written) found =
-    IsOutcomeOfNames (texts_for files given (ask.goals [])) names written found
-IsOutcomeOfAsked files (ask.solve given request limit extent explains written) found =
-    IsOutcomeOfExtent (texts_for files given request) limit extent written found
-IsOutcomeOfAsked files (ask.check_plan given request plan explains written) found =
-    IsOutcomeOfPlanJudged (texts_for files given request) (judged_at files plan) written found
-IsOutcomeOfAsked files (ask.check_refutation given request refutation explains written) found =
-    IsOutcomeOfLines (texts_for files given request) (judged_at files refutation) written found
-IsOutcomeOfAsked files (ask.apply given request plan journal output) found =
-    IsOutcomeOfPlanTaken (texts_for files given request) (judged_at files plan) found
-IsOutcomeOfAsked files (ask.installable given survey folder explains written) found =
-    IsOutcomeOfPackages (texts_for files given (ask.goals [])) survey folder written found
-IsOutcomeOfAsked files (ask.batch given limit) found = IsOutcomeOfBatch (texts_for files given (ask.goals [])) limit (files (codes "-")) found
+IsOutcomeOfAsked files (ask.compare version word other) outcome = IsOutcomeOfVersions version (comparison_of word) other outcome
+IsOutcomeOfAsked files (ask.candidate given names explains written) outcome =
+    IsOutcomeOfNames (texts_for files given (ask.goals [])) names written outcome
+IsOutcomeOfAsked files (ask.solve given request limit extent explains written) outcome =
+    IsOutcomeOfExtent (texts_for files given request) limit extent written outcome
+IsOutcomeOfAsked files (ask.check_plan given request plan explains written) outcome =
+    IsOutcomeOfPlanJudged (texts_for files given request) (judged_at files plan) written outcome
+IsOutcomeOfAsked files (ask.check_refutation given request refutation explains written) outcome =
+    IsOutcomeOfLines (texts_for files given request) (judged_at files refutation) written outcome
+IsOutcomeOfAsked files (ask.apply given request plan journal output) outcome =
+    IsOutcomeOfPlanTaken (texts_for files given request) (judged_at files plan) outcome
+IsOutcomeOfAsked files (ask.installable given survey folder explains written) outcome =
+    IsOutcomeOfPackages (texts_for files given (ask.goals [])) survey folder written outcome
+IsOutcomeOfAsked files (ask.batch given limit) outcome = IsOutcomeOfBatch (texts_for files given (ask.goals [])) limit (files (codes "-")) outcome

@@ -6,8 +6,8 @@ use Rattle.cli.specs.declared.files.TextAt.{TextAt}
 use Rattle.cli.specs.declared.files.TextAt.TheVariants as place
 use Rattle.document_text.specs.DocumentText.{text_in}
 use Rattle.inputs.specs.Texts.{Shelved}
-use Rattle.inputs.specs.declared.shelf.Part.{Part}
-use Rattle.inputs.specs.declared.shelf.Part.TheVariants as part
+use Rattle.inputs.specs.declared.shelf.WholeText.{WholeText}
+use Rattle.inputs.specs.declared.shelf.WholeText.TheVariants as part
 
 -- what there is at a path, and nothing where none can be read
 abbrev pub Files : Type 0
@@ -35,7 +35,7 @@ shelved_at files paths = record {
 }
 
 -- the text of a part that bytes hold: what is judged may stand in a JSON document
-abbrev pub held : Part → List ℕ → List ℕ
+abbrev pub held : WholeText → List ℕ → List ℕ
 held part.Status bytes = bytes
 held part.Sources bytes = bytes
 held part.Request bytes = bytes

@@ -39,41 +39,41 @@ IsLeftUntold Leaves at was files kept = Untouched at was files kept ⊎ ((made :
 
 -- this is left by an outcome, and where memory was wanting for one, nothing is changed or as much is left as behind one
 abbrev pub IsLeftWith : {J E : Type 0} → Leaving J → Files → Kept J → Result Outcome E → Option Files → Option (Kept J) → Type 0
-IsLeftWith Leaves at was (Ok found) files kept = Leaves found files kept
+IsLeftWith Leaves at was (Ok outcome) files kept = Leaves outcome files kept
 IsLeftWith Leaves at was (Err e) files kept = IsLeftUntold Leaves at was files kept
 
 -- this is left by the outcome, or the outcome is that memory was wanting, and nothing is changed or as much is left as behind another
 abbrev pub IsLeftOrUntold : {J : Type 0} → Leaving J → Files → Kept J → Leaving J
-IsLeftOrUntold Leaves at was found files kept =
-    Leaves found files kept ⊎ (IsOutcomeOfMemory found × IsLeftUntold Leaves at was files kept)
+IsLeftOrUntold Leaves at was outcome files kept =
+    Leaves outcome files kept ⊎ (IsOutcomeOfMemory outcome × IsLeftUntold Leaves at was files kept)
 
 -- Of a plan that is to be carried out
 
 -- behind the run: the number of steps is printed where the status text was put at the output while the journal was held; and else no
 -- text was put
 abbrev pub IsLeftOfRun : Result CarriedOut Stop → List ℕ → List ℕ → Files → List Put → Outcome → Option Files → List Put → Type 0
-IsLeftOfRun (Err stop) journal output at puts found files now = IsOutcomeOfStop stop found × (files ≡ Some at) × (now ≡ puts)
-IsLeftOfRun (Ok done) journal output at puts found files now =
-    ((found ≡ outcome.Answer (applied_line done.steps) exit.Success)
+IsLeftOfRun (Err stop) journal output at puts printed files now = IsOutcomeOfStop stop printed × (files ≡ Some at) × (now ≡ puts)
+IsLeftOfRun (Ok done) journal output at puts printed files now =
+    ((printed ≡ outcome.Answer (applied_line done.steps) exit.Success)
     × ((after : Files) × (files ≡ Some after) × HasPut output done.status.items at after)
     × (now ≡ puts ++ record { path = output; text = done.status.items; held = Some journal } ∷ []))
-    ⊎ (IsUnwritten found × (files ≡ Some at) × (now ≡ puts))
+    ⊎ (IsUnwritten printed × (files ≡ Some at) × (now ≡ puts))
 
 -- a good plan is run on the journal at its path, and no other is touched
 pub record IsLeftOfReady {J : Type 0} (honest : J → Type 0) (facts : J → DiskFacts) (plan : ReadyPlan) (journal output : List ℕ)
-    (at : Files) (was : Kept J) (found : Outcome) (files : Option Files) (kept : Option (Kept J)) : Type 0 where
+    (at : Files) (was : Kept J) (printed : Outcome) (files : Option Files) (kept : Option (Kept J)) : Type 0 where
   pub run : Result CarriedOut Stop
   pub left : Kept J
   pub kept_is : kept ≡ Some left
   pub elsewhere : SameElsewhere journal was left
   pub through : IsRunThrough honest facts plan (was.journals journal) run (left.journals journal)
-  pub outcome : IsLeftOfRun run journal output at was.puts found files left.puts
+  pub outcome : IsLeftOfRun run journal output at was.puts printed files left.puts
 
 -- words that name one file in two places are refused, and nothing is changed; and else this is left
 abbrev pub WhereApart : {J : Type 0} → List ℕ → List ℕ → List (List ℕ) → Files → Kept J → Leaving J → Leaving J
-WhereApart journal output others at was Leaves found files kept =
-    ((¬ AreApart journal output others) × IsOutcomeOfOneFile found × Untouched at was files kept)
-    ⊎ (AreApart journal output others × Leaves found files kept)
+WhereApart journal output others at was Leaves outcome files kept =
+    ((¬ AreApart journal output others) × IsOutcomeOfOneFile outcome × Untouched at was files kept)
+    ⊎ (AreApart journal output others × Leaves outcome files kept)
 
 -- a good plan is run, where the journal and the output are none of the indices
 abbrev pub IsLeftOfGood : {J : Type 0} → (J → Type 0) → (J → DiskFacts) → ReadyPlan → List ℕ → List ℕ → Files → Kept J → Leaving J
@@ -82,15 +82,15 @@ IsLeftOfGood honest facts plan journal output at was =
 
 -- a good plan is run so; and behind a verdict or a refusal nothing is changed
 abbrev pub IsLeftOfPrepared : {J : Type 0} → (J → Type 0) → (J → DiskFacts) → Result Prepared Refusal → List ℕ → List ℕ → Files → Kept J → Leaving J
-IsLeftOfPrepared honest facts (Ok (Ready plan)) journal output at was found files kept =
-    IsLeftOfGood honest facts plan journal output at was found files kept
-IsLeftOfPrepared honest facts said journal output at was found files kept = IsOutcomeOfPrepared said found × Untouched at was files kept
+IsLeftOfPrepared honest facts (Ok (Ready plan)) journal output at was outcome files kept =
+    IsLeftOfGood honest facts plan journal output at was outcome files kept
+IsLeftOfPrepared honest facts said journal output at was outcome files kept = IsOutcomeOfPrepared said outcome × Untouched at was files kept
 
 -- what is left is that of what is said of the plan by the texts, where the journal and the output are none of these files that are read
 abbrev pub IsLeftOfPlanTaken : {J : Type 0} → (J → Type 0) → (J → DiskFacts) → Texts → Found → List (List ℕ) → List ℕ → List ℕ
     → Files → Kept J → Leaving J
-IsLeftOfPlanTaken honest facts texts plan read journal output at was = WhereApart journal output read at was (λ found files kept.
-    (said : Result Prepared Refusal) × IsSaidOfPrepared texts plan said × IsLeftOfPrepared honest facts said journal output at was found files kept)
+IsLeftOfPlanTaken honest facts texts plan read journal output at was = WhereApart journal output read at was (λ outcome files kept.
+    (said : Result Prepared Refusal) × IsSaidOfPrepared texts plan said × IsLeftOfPrepared honest facts said journal output at was outcome files kept)
 
 -- Of as much of a request as can be
 
@@ -102,37 +102,37 @@ IsPut {J} path text at was files kept = ((after : Files) × (files ≡ Some afte
 -- the answer to what is left is printed where its request stands at the path of the output; where it couldn't be written there, or
 -- where there is no output, nothing is changed
 abbrev pub IsLeftOfKept : {J : Type 0} → Option (List ℕ) → List ℕ → Outcome → Files → Kept J → Leaving J
-IsLeftOfKept None request printed at was found files kept = (found ≡ printed) × Untouched at was files kept
-IsLeftOfKept (Some path) request printed at was found files kept =
-    ((found ≡ printed) × IsPut path request at was files kept) ⊎ (IsRequestUnwritten found × Untouched at was files kept)
+IsLeftOfKept None request printed at was outcome files kept = (outcome ≡ printed) × Untouched at was files kept
+IsLeftOfKept (Some path) request printed at was outcome files kept =
+    ((outcome ≡ printed) × IsPut path request at was files kept) ⊎ (IsRequestUnwritten outcome × Untouched at was files kept)
 
 -- the answer to what is left is printed and its request put; and behind a refusal nothing is changed
 abbrev pub IsLeftOfSaid : {J : Type 0} → Format → Result KeptBack Refusal → Option (List ℕ) → Files → Kept J → Leaving J
-IsLeftOfSaid written (Ok back) output at was found files kept =
-    (printed : Outcome) × IsPrintedOfKept written back printed × IsLeftOfKept output back.request printed at was found files kept
-IsLeftOfSaid written (Err refused) output at was found files kept = IsOutcomeOfRefusal refused found × Untouched at was files kept
+IsLeftOfSaid written (Ok back) output at was outcome files kept =
+    (printed : Outcome) × IsPrintedOfKept written back printed × IsLeftOfKept output back.request printed at was outcome files kept
+IsLeftOfSaid written (Err refused) output at was outcome files kept = IsOutcomeOfRefusal refused outcome × Untouched at was files kept
 
 -- what is left is that of what is said of as much of the request as can be, by the texts
 abbrev pub IsLeftOfPossible : {J : Type 0} → Texts → ℕ → Option (List ℕ) → Format → Files → Kept J → Leaving J
-IsLeftOfPossible texts limit output written at was found files kept =
-    (said : Result KeptBack Refusal) × IsSaidOfKept texts limit said × IsLeftOfSaid written said output at was found files kept
+IsLeftOfPossible texts limit output written at was outcome files kept =
+    (said : Result KeptBack Refusal) × IsSaidOfKept texts limit said × IsLeftOfSaid written said output at was outcome files kept
 
 -- Of what is asked for
 
 -- all of the request changes nothing; as much of it as can be leaves its request
 abbrev pub IsLeftOfExtent : {J : Type 0} → Texts → ℕ → Extent → Format → Files → Kept J → Leaving J
-IsLeftOfExtent texts limit (ask.whole names_pairs) written at was found files kept =
-    IsOutcomeOfRequest texts limit names_pairs written found × Untouched at was files kept
-IsLeftOfExtent texts limit (ask.possible output) written at was found files kept =
-    IsLeftOfPossible texts limit output written at was found files kept
+IsLeftOfExtent texts limit (ask.whole names_pairs) written at was outcome files kept =
+    IsOutcomeOfRequest texts limit names_pairs written outcome × Untouched at was files kept
+IsLeftOfExtent texts limit (ask.possible output) written at was outcome files kept =
+    IsLeftOfPossible texts limit output written at was outcome files kept
 
 -- the outcome is that of what is said in answer to what is asked for: a request leaves what is left of it, a plan that is carried out
 -- its journal and its output, packages that are asked about the files of those that are broken, and all else changes nothing
 abbrev pub IsLeftOfAsked : {J : Type 0} → (J → Type 0) → (J → DiskFacts) → Asked → Files → Kept J → Leaving J
-IsLeftOfAsked honest facts (ask.solve given request limit extent explains written) at was found files kept =
-    IsLeftOfExtent (texts_for at given request) limit extent written at was found files kept
-IsLeftOfAsked honest facts (ask.apply given request plan journal output) at was found files kept =
-    IsLeftOfPlanTaken honest facts (texts_for at given request) (judged_at at plan) (paths_for given request plan) journal output at was found files kept
-IsLeftOfAsked honest facts (ask.installable given survey folder explains written) at was found files kept =
-    IsLeftOfPackages (texts_for at given (ask.goals [])) survey folder written at was found files kept
-IsLeftOfAsked honest facts asked at was found files kept = IsOutcomeOfAsked at asked found × Untouched at was files kept
+IsLeftOfAsked honest facts (ask.solve given request limit extent explains written) at was outcome files kept =
+    IsLeftOfExtent (texts_for at given request) limit extent written at was outcome files kept
+IsLeftOfAsked honest facts (ask.apply given request plan journal output) at was outcome files kept =
+    IsLeftOfPlanTaken honest facts (texts_for at given request) (judged_at at plan) (paths_for given request plan) journal output at was outcome files kept
+IsLeftOfAsked honest facts (ask.installable given survey folder explains written) at was outcome files kept =
+    IsLeftOfPackages (texts_for at given (ask.goals [])) survey folder written at was outcome files kept
+IsLeftOfAsked honest facts asked at was outcome files kept = IsOutcomeOfAsked at asked outcome × Untouched at was files kept

@@ -7,11 +7,11 @@ use Rattle.cli_engine.specs.declared.check_refutation.JudgedRefutation.{JudgedRe
 use Rattle.cli_engine.specs.declared.solve.Answered.{Answered}
 use Rattle.command_line.specs.declared.call.Format.{Format}
 use Rattle.command_line.specs.declared.call.Format.TheVariants as format
-use Rattle.documents.specs.Document.{text_data}
-use Rattle.documents.specs.Objects.{candidate_data, no_candidate_data, with_bad_line, with_text, with_verdict}
-use Rattle.documents.specs.Steps.{AreWithSteps}
-use Rattle.documents.specs.TextLines.{lines_data}
-use Rattle.documents.specs.declared.members.Members.{Members as Made}
+use Rattle.json_answers.specs.Document.{text_data}
+use Rattle.json_answers.specs.Objects.{candidate_data, no_candidate_data, with_bad_line, with_text, with_verdict}
+use Rattle.json_answers.specs.Steps.{AreWithSteps}
+use Rattle.json_answers.specs.TextLines.{lines_data}
+use Rattle.json_answers.specs.declared.members.Members.{Members as Made}
 use Rattle.inputs.specs.declared.refusal.Refusal.{Refusal}
 use Rattle.keep_back.specs.declared.keep_back.KeptBack.{KeptBack}
 use Rattle.refutecheck.specs.declared.verdict.Verdict.{Verdict}

@@ -9,7 +9,7 @@ use Rattle.cli.specs.declared.files.TextAt.TheVariants as place
 use Rattle.cli_engine.specs.declared.comparison.Comparison.{Comparison}
 use Rattle.cli_engine.specs.declared.comparison.Comparison.TheVariants as comparison
 use Rattle.command_line.specs.Asked as ask
-use Rattle.command_line.specs.Asked.{Asked, Given, Request}
+use Rattle.command_line.specs.Asked.{Asked, Given, RequestSource}
 use Rattle.command_line.specs.Joined.{Text}
 use Rattle.command_line.specs.declared.call.Relation.{Relation}
 use Rattle.command_line.specs.declared.call.Relation.TheVariants as relation
@@ -30,7 +30,7 @@ lines_of [] = []
 lines_of (goal ∷ others) = goal ++ (codes "\n" ++ lines_of others)
 
 -- the text of the goals of a request, of which that of a file has none
-abbrev pub goal_lines : Request → Text
+abbrev pub goal_lines : RequestSource → Text
 goal_lines (ask.file path) = []
 goal_lines (ask.goals texts) = lines_of texts
 
@@ -50,12 +50,12 @@ abbrev pub file_path : Text → Text
 file_path path = if bytes_eq path (codes "-") then codes "./-" else path
 
 -- the text of a request: that of the file at its path, or its goals
-abbrev pub request_at : Files → Request → Found
+abbrev pub request_at : Files → RequestSource → Found
 request_at files (ask.file path) = files path
 request_at files (ask.goals texts) = Some (lines_of texts)
 
 -- the texts that the files have for these options, with this request; an index is the file that its source names
-abbrev pub texts_for : Files → Given → Request → Texts
+abbrev pub texts_for : Files → Given → RequestSource → Texts
 texts_for files given asked = record {
   arch = given.arch;
   target = given.target;
@@ -67,12 +67,12 @@ texts_for files given asked = record {
 }
 
 -- the path of a request, where it is a file
-abbrev pub request_path : Request → List Text
+abbrev pub request_path : RequestSource → List Text
 request_path (ask.file path) = path ∷ []
 request_path (ask.goals texts) = []
 
 -- the paths of the files that are read for these options, with this request and what is judged at this path
-abbrev pub paths_for : Given → Request → Text → List Text
+abbrev pub paths_for : Given → RequestSource → Text → List Text
 paths_for given asked judged =
     file_path given.status ∷ file_path given.sources ∷ judged ∷ (option_to_list (option_map file_path given.preferences) ++ request_path asked)
 

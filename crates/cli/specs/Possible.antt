@@ -13,13 +13,13 @@ use Rattle.serde_json.specs.Data.{Members}
 
 -- this is printed, or where there is an output, that the request that is left couldn't be written there
 abbrev pub IsPrintedWhere : Option (List ℕ) → Outcome → Outcome → Type 0
-IsPrintedWhere None printed found = found ≡ printed
-IsPrintedWhere (Some path) printed found = (found ≡ printed) ⊎ IsRequestUnwritten found
+IsPrintedWhere None printed outcome = outcome ≡ printed
+IsPrintedWhere (Some path) printed outcome = (outcome ≡ printed) ⊎ IsRequestUnwritten outcome
 
 -- this is printed where the request that is left was put, and else that it couldn't be written
 abbrev pub IsPrintedOfPut : {A E : Type 0} → Result A E → Outcome → Outcome → Type 0
-IsPrintedOfPut (Ok done) printed found = found ≡ printed
-IsPrintedOfPut (Err e) printed found = IsRequestUnwritten found
+IsPrintedOfPut (Ok done) printed outcome = outcome ≡ printed
+IsPrintedOfPut (Err e) printed outcome = IsRequestUnwritten outcome
 
 -- it is printed of the answer to what is left, in this format, and in a document with the members of both
 abbrev pub IsPrintedOfKept : Format → KeptBack → Outcome → Type 0
@@ -34,10 +34,10 @@ IsSaidOfLeft texts limit written (Err refused) = IsSaidOfKept texts limit (Err r
 
 -- the outcome is that of what is said
 abbrev pub IsOutcomeOfSaid : Format → Result KeptBack Refusal → Option (List ℕ) → Outcome → Type 0
-IsOutcomeOfSaid written (Ok kept) output found = (printed : Outcome) × IsPrintedOfKept written kept printed × IsPrintedWhere output printed found
-IsOutcomeOfSaid written (Err refusal) output found = IsOutcomeOfRefusal refusal found
+IsOutcomeOfSaid written (Ok kept) output outcome = (printed : Outcome) × IsPrintedOfKept written kept printed × IsPrintedWhere output printed outcome
+IsOutcomeOfSaid written (Err refusal) output outcome = IsOutcomeOfRefusal refusal outcome
 
 -- the outcome is that of what is said of as much of the request as can be, by the texts
 abbrev pub IsOutcomeOfPossible : Texts → ℕ → Option (List ℕ) → Format → Outcome → Type 0
-IsOutcomeOfPossible texts limit output written found =
-    (said : Result KeptBack Refusal) × IsSaidOfKept texts limit said × IsOutcomeOfSaid written said output found
+IsOutcomeOfPossible texts limit output written outcome =
+    (said : Result KeptBack Refusal) × IsSaidOfKept texts limit said × IsOutcomeOfSaid written said output outcome

@@ -46,16 +46,17 @@ fn said_of_plan<H: Host>(
     arguments: &Arguments<'_>,
 ) -> Result<Prepared, Refusal>
     ensures said { (at : Files) → H.files host.old ≡ Some at
-        → IsSaidOfPrepared (texts_at at arguments.now) (judged_at at arguments.now.paths.judged.now) result }
+        → IsSaidOfPrepared (texts_at at arguments.now)
+        (judged_at at arguments.now.paths.judged.now) result }
     ensures same { H.files host.new ≡ H.files host.old }
     ensures keeps { H.kept host.new ≡ H.kept host.old }
 {
     let Arguments { settings, .. } = *arguments;
-    let mut seen = None;
+    let mut context = None;
     let mut shelf = HostShelf {
         host,
         paths: &arguments.paths,
-        seen: &mut seen,
+        context: &mut context,
         openings: Openings::none(),
     };
     ask_files(alloc, &mut shelf, &settings, &Prepare {}, &mut ())
@@ -113,8 +114,10 @@ fn outcome_of_ready<H: Host>(
     plan: &GoodPlan,
 ) -> Result<Outcome, AllocError>
     ensures printed { IfOk result (IsOutcomeOfReady plan.now) }
-    ensures left { (at : Files) (was : Kept H.Journal) → H.files host.old ≡ Some at → H.kept host.old ≡ Some was → IsLeftWith
-        (IsLeftOfReady H.Journal.honest H.Journal.facts plan.now target.entry.journal.now target.entry.output.now at was)
+    ensures left { (at : Files) (was : Kept H.Journal) → H.files host.old ≡ Some at
+        → H.kept host.old ≡ Some was → IsLeftWith
+        (IsLeftOfReady H.Journal.honest H.Journal.facts plan.now target.entry.journal.now
+        target.entry.output.now at was)
         at was result (H.files host.new) (H.kept host.new) }
 {
     let Target {
@@ -142,8 +145,10 @@ fn outcome_of_good<H: Host>(
     plan: &GoodPlan,
 ) -> Result<Outcome, AllocError>
     ensures printed { IfOk result (IsOutcomeOfGood plan.now) }
-    ensures left { (at : Files) (was : Kept H.Journal) → H.files host.old ≡ Some at → H.kept host.old ≡ Some was → IsLeftWith
-        (IsLeftOfGood H.Journal.honest H.Journal.facts plan.now target.entry.journal.now target.entry.output.now at was)
+    ensures left { (at : Files) (was : Kept H.Journal) → H.files host.old ≡ Some at
+        → H.kept host.old ≡ Some was → IsLeftWith
+        (IsLeftOfGood H.Journal.honest H.Journal.facts plan.now target.entry.journal.now
+        target.entry.output.now at was)
         at was result (H.files host.new) (H.kept host.new) }
 {
     match one_file_of_indices(alloc, host, target, plan)? {
@@ -160,8 +165,10 @@ fn outcome_of_said<H: Host>(
     said: &Result<Prepared, Refusal>,
 ) -> Result<Outcome, AllocError>
     ensures printed { IfOk result (IsOutcomeOfPrepared said.now) }
-    ensures left { (at : Files) (was : Kept H.Journal) → H.files host.old ≡ Some at → H.kept host.old ≡ Some was → IsLeftWith
-        (IsLeftOfPrepared H.Journal.honest H.Journal.facts said.now target.entry.journal.now target.entry.output.now at was)
+    ensures left { (at : Files) (was : Kept H.Journal) → H.files host.old ≡ Some at
+        → H.kept host.old ≡ Some was → IsLeftWith
+        (IsLeftOfPrepared H.Journal.honest H.Journal.facts said.now target.entry.journal.now
+        target.entry.output.now at was)
         at was result (H.files host.new) (H.kept host.new) }
 {
     match said {
@@ -180,9 +187,12 @@ pub(crate) fn outcome_of_applied<H: Host>(
     target: Target<'_>,
 ) -> Result<Outcome, AllocError>
     ensures printed { (at : Files) → H.files host.old ≡ Some at → IfOk result (λ outcome.
-        IsOutcomeOfPlanTaken (texts_at at arguments.now) (judged_at at arguments.now.paths.judged.now) outcome) }
-    ensures left { (at : Files) (was : Kept H.Journal) → H.files host.old ≡ Some at → H.kept host.old ≡ Some was → IsLeftWith
-        (IsLeftOfPlanTaken H.Journal.honest H.Journal.facts (texts_at at arguments.now) (judged_at at arguments.now.paths.judged.now)
+        IsOutcomeOfPlanTaken (texts_at at arguments.now)
+        (judged_at at arguments.now.paths.judged.now) outcome) }
+    ensures left { (at : Files) (was : Kept H.Journal) → H.files host.old ≡ Some at
+        → H.kept host.old ≡ Some was → IsLeftWith
+        (IsLeftOfPlanTaken H.Journal.honest H.Journal.facts (texts_at at arguments.now)
+        (judged_at at arguments.now.paths.judged.now)
         (paths_read arguments.now.paths) target.entry.journal.now target.entry.output.now at was)
         at was result (H.files host.new) (H.kept host.new) }
 {

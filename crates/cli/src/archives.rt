@@ -1,10 +1,10 @@
 //! The archives of what a plan unpacks, found in a second reading of the sources and of their indices.
 
 use cli_engine::{Refusal, Settings};
-use documents::{Archives, read_archives};
 use inputs::{Fault, Shelf, open_index, read_sources, read_sources_text};
+use json_answers::{Archives, read_archives};
 use rules::Step;
-use stanza::ReadError;
+use stanza::ReaderError;
 use std::alloc::{AllocError, Global};
 
 /// The archives of what the steps unpack, as far as the indices can be read again. Memory alone can fail.
@@ -68,7 +68,7 @@ fn find_in_index<S: Shelf>(
     let read = read_archives(alloc, &mut text, settings.arch, archives);
     shelf.close(text);
     match read {
-        Err(ReadError::OutOfMemory) => Err(Refusal::from(AllocError)),
+        Err(ReaderError::OutOfMemory) => Err(Refusal::from(AllocError)),
         _ => Ok(()),
     }
 }

@@ -3,11 +3,11 @@ ghost use Rattle.std.specs.Prelude.{◌≡◌, IfOk, option_map};
 ghost use Rattle.cli.specs.Calls.{texts_at};
 ghost use Rattle.cli.specs.Files.{Files, text_at};
 ghost use Rattle.cli.specs.Places.{comparison_of, file_path, goal_lines, goals_by, lines_of, paths_for, paths_read, place_path, request_at, request_path, texts_for};
-ghost use Rattle.command_line.specs.Asked.{Request as RequestOf, asked_by, given_by, request_by, texts_by};
+ghost use Rattle.command_line.specs.Asked.{RequestSource as RequestOf, asked_by, given_by, request_by, texts_by};
 
 use crate::files::{Paths, TextAt};
 use cli_engine::Comparison;
-use command_line::{Call, Format, Options, Relation, Request};
+use command_line::{Call, Format, Options, Relation, RequestSource};
 use inputs::Settings;
 use std::alloc::{AllocError, Global};
 
@@ -26,14 +26,14 @@ pub(crate) struct Arguments<'a> {
 }
 
 /// Where the request is, of which this is the text of its goals.
-pub(crate) fn place_of<'a>(request: &'a Request<'a>, goals: &'a [u8]) -> TextAt<'a>
+pub(crate) fn place_of<'a>(request: &'a RequestSource<'a>, goals: &'a [u8]) -> TextAt<'a>
     requires { goals.now ≡ goal_lines (request_by request.now) }
     ensures text { (at : Files) → text_at at result ≡ request_at at (request_by request.entry.now) }
     ensures path { place_path result ≡ request_path (request_by request.entry.now) }
 {
     match request {
-        Request::File(path) => TextAt::File(*path),
-        Request::Goals(_) => TextAt::Given(goals),
+        RequestSource::File(path) => TextAt::File(*path),
+        RequestSource::Goals(_) => TextAt::Given(goals),
     }
 }
 
@@ -55,12 +55,12 @@ pub(crate) fn goals_of(alloc: Global, call: &Call<'_>) -> Result<Vec<u8>, AllocE
 }
 
 // The text of the goals of the request.
-fn goals_in(alloc: Global, request: &Request<'_>) -> Result<Vec<u8>, AllocError>
+fn goals_in(alloc: Global, request: &RequestSource<'_>) -> Result<Vec<u8>, AllocError>
     ensures { IfOk result (λ text. text.items ≡ goal_lines (request_by request.now)) }
 {
     match request {
-        Request::File(_) => Ok(Vec::new(alloc)),
-        Request::Goals(goals) => lines(alloc, goals.as_slice()),
+        RequestSource::File(_) => Ok(Vec::new(alloc)),
+        RequestSource::Goals(goals) => lines(alloc, goals.as_slice()),
     }
 }
 
@@ -98,7 +98,8 @@ pub(crate) fn arguments_by<'a>(
     explains: bool,
     format: Format,
 ) -> Arguments<'a>
-    ensures texts { (at : Files) (asked : RequestOf) → text_at at request.entry ≡ request_at at asked
+    ensures texts { (at : Files) (asked : RequestOf) → text_at at request.entry
+        ≡ request_at at asked
         → texts_at at result ≡ texts_for at (given_by options.entry.now) asked }
     ensures read { (asked : RequestOf) → place_path request.entry ≡ request_path asked
         → paths_read result.paths ≡ paths_for (given_by options.entry.now) asked judged.entry.now }
@@ -128,7 +129,8 @@ fn file_path<'a>(path: &'a str) -> &'a str
 
 fn settings_by<'a>(options: &Options<'a>) -> Settings<'a>
     ensures arch { result.arch.now ≡ options.now.arch.now }
-    ensures target { option_map (λ word. word.now) result.target ≡ option_map (λ word. word.now) options.now.target }
+    ensures target { option_map (λ word. word.now) result.target
+        ≡ option_map (λ word. word.now) options.now.target }
 {
     Settings {
         arch: options.arch.as_bytes(),

@@ -1,6 +1,6 @@
 //! What is wanted beside an answer.
 use crate::arguments::Arguments;
-use crate::files::Seen;
+use crate::files::RefusalContext;
 use cli_engine::Notes;
 use command_line::Format;
 use std::alloc::Global;
@@ -19,9 +19,9 @@ pub(crate) fn want(arguments: &Arguments<'_>, notes: &mut Notes) {
 }
 
 /// What is remembered of the texts, where sentences are to be shown.
-pub(crate) fn seen_if(alloc: Global, explains: bool) -> Option<Seen> {
+pub(crate) fn context_if(alloc: Global, explains: bool) -> Option<RefusalContext> {
     if explains {
-        Some(Seen::new(alloc))
+        Some(RefusalContext::new(alloc))
     } else {
         None
     }

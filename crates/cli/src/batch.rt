@@ -4,16 +4,17 @@ ghost use Rattle.cli.specs.Batch.{IsOutcomeOfBatch};
 ghost use Rattle.cli.specs.Calls.{texts_at};
 ghost use Rattle.cli.specs.Files.{Files, shelved_at};
 ghost use Rattle.cli.specs.Heard.{IsAnswerWritten, IsSaidOfQuestions, KeepsWritten};
+ghost use Rattle.conversation.specs.Stream.{written_on};
 ghost use Rattle.inputs.specs.Texts.{texts_of};
-ghost use Rattle.outcomes.specs.Outcome.{IsOutcomeOfMemory, IsOutcomeOfRefusal, IsWritten};
-ghost use Rattle.outcomes.specs.declared.outcome.Outcome.{Outcome as Found};
+ghost use Rattle.outcomes.specs.Outcome.{IsOutcomeOfMemory, IsOutcomeOfRefusal, IsWritten, streams_on};
+ghost use Rattle.outcomes.specs.declared.outcome.Outcome.{Outcome as OutcomeOf};
 ghost use Rattle.text_lines.specs.Lines.{left_of};
 
 use crate::arguments::Arguments;
 use crate::files::{HostShelf, Openings, ask_files};
 use crate::hearing::questions_of;
 use crate::host::{Host, Turn};
-use conversation::{Ended, Talk};
+use conversation::{Ended, Stream, Talk};
 use inputs::{ReadError, Refusal, Settings};
 use outcomes::{outcome_of_refusal, print, print_ended, refuse_for_memory};
 use std::alloc::{AllocError, Global};
@@ -24,11 +25,13 @@ use text_lines::Lines;
 fn print_refusal<W: Write, E: Write>(
     alloc: Global,
     refusal: &Refusal,
-    out: &mut W,
-    err: &mut E,
+    out: &mut Stream<W>,
+    err: &mut Stream<E>,
 ) -> u8
-    ensures { (found : Found) × (IsOutcomeOfRefusal refusal.now found ⊎ IsOutcomeOfMemory found)
-        × IsWritten found (W.contents out.old) (W.contents out.new) result }
+    ensures { (outcome : OutcomeOf)
+        × (IsOutcomeOfRefusal refusal.now outcome ⊎ IsOutcomeOfMemory outcome)
+        × IsWritten outcome (streams_on W.contents E.contents out.old err.old)
+        (streams_on W.contents E.contents out.new err.new) result }
 {
     match outcome_of_refusal(alloc, refusal) {
         Ok(outcome) => print(&outcome, &[], out, err),
@@ -46,8 +49,10 @@ fn ask_questions<H: Host, W: Write>(
 ) -> Result<Ended, Refusal>
     ensures said { (at : Files) → H.files shelf.old.host.now ≡ Some at → IsSaidOfQuestions
         (texts_of settings.now (shelved_at at shelf.old.paths.now)) limit
-        (left_of H.Text.left talk.old.lines) (W.contents talk.old.out.now) (W.contents talk.new.out.now) result }
-    ensures kept { KeepsWritten (W.contents talk.old.out.now) (W.contents talk.new.out.now) result }
+        (left_of H.Text.left talk.old.lines) (written_on W.contents talk.old.out.now)
+        (written_on W.contents talk.new.out.now) result }
+    ensures kept { KeepsWritten (written_on W.contents talk.old.out.now)
+        (written_on W.contents talk.new.out.now) result }
     ensures spoken { talk.new.out.ghost_name ≡ talk.old.out.ghost_name }
     ensures same { H.files shelf.new.host.now ≡ H.files shelf.old.host.now }
     ensures keeps { H.kept shelf.new.host.now ≡ H.kept shelf.old.host.now }
@@ -64,20 +69,23 @@ fn answer_lines<H: Host, W: Write>(
     arguments: &Arguments<'_>,
     limit: u32,
     lines: Lines<H::Text>,
-    out: &mut W,
+    out: &mut Stream<W>,
 ) -> Result<Ended, Refusal>
-    ensures said { (at : Files) → H.files host.old ≡ Some at → IsSaidOfQuestions (texts_at at arguments.now) limit
-        (left_of H.Text.left lines) (W.contents out.old) (W.contents out.new) result }
-    ensures kept { KeepsWritten (W.contents out.old) (W.contents out.new) result }
+    ensures said { (at : Files) → H.files host.old ≡ Some at
+        → IsSaidOfQuestions (texts_at at arguments.now) limit
+        (left_of H.Text.left lines) (written_on W.contents out.old)
+        (written_on W.contents out.new) result }
+    ensures kept { KeepsWritten (written_on W.contents out.old) (written_on W.contents out.new)
+        result }
     ensures same { H.files host.new ≡ H.files host.old }
     ensures keeps { H.kept host.new ≡ H.kept host.old }
 {
     let settings = arguments.settings;
-    let mut seen = None;
+    let mut context = None;
     let mut shelf = HostShelf {
         host,
         paths: &arguments.paths,
-        seen: &mut seen,
+        context: &mut context,
         openings: Openings::none(),
     };
     let mut talk = Talk { lines, out };
@@ -96,12 +104,14 @@ fn status_of_text<H: Host, W: Write, E: Write>(
     arguments: &Arguments<'_>,
     limit: u32,
     text: H::Text,
-    out: &mut W,
-    err: &mut E,
+    out: &mut Stream<W>,
+    err: &mut Stream<E>,
 ) -> u8
-    ensures printed { (found : Found) × (((at : Files) → H.files host.old ≡ Some at
-        → IsAnswerWritten (texts_at at arguments.now) limit (H.Text.left text) found) ⊎ IsOutcomeOfMemory found)
-        × IsWritten found (W.contents out.old) (W.contents out.new) result }
+    ensures printed { (outcome : OutcomeOf) × (((at : Files) → H.files host.old ≡ Some at
+        → IsAnswerWritten (texts_at at arguments.now) limit (H.Text.left text) outcome)
+        ⊎ IsOutcomeOfMemory outcome)
+        × IsWritten outcome (streams_on W.contents E.contents out.old err.old)
+        (streams_on W.contents E.contents out.new err.new) result }
     ensures same { H.files host.new ≡ H.files host.old }
     ensures keeps { H.kept host.new ≡ H.kept host.old }
 {
@@ -121,12 +131,14 @@ pub(crate) fn status_of_batch<H: Host, W: Write, E: Write>(
     host: &mut H,
     arguments: &Arguments<'_>,
     limit: u32,
-    out: &mut W,
-    err: &mut E,
+    out: &mut Stream<W>,
+    err: &mut Stream<E>,
 ) -> u8
-    ensures printed { (found : Found) × (((at : Files) → H.files host.old ≡ Some at
-        → IsOutcomeOfBatch (texts_at at arguments.now) limit (at (codes "-")) found) ⊎ IsOutcomeOfMemory found)
-        × IsWritten found (W.contents out.old) (W.contents out.new) result }
+    ensures printed { (outcome : OutcomeOf) × (((at : Files) → H.files host.old ≡ Some at
+        → IsOutcomeOfBatch (texts_at at arguments.now) limit (at (codes "-")) outcome)
+        ⊎ IsOutcomeOfMemory outcome)
+        × IsWritten outcome (streams_on W.contents E.contents out.old err.old)
+        (streams_on W.contents E.contents out.new err.new) result }
     ensures same { H.files host.new ≡ H.files host.old }
     ensures keeps { H.kept host.new ≡ H.kept host.old }
 {

@@ -6,9 +6,9 @@ ghost use Rattle.cli.specs.Members as Spec;
 ghost use Rattle.cli.specs.Members.{AreMembersIn};
 ghost use Rattle.serde_json.specs.View.{members_view, view};
 
-use cli_engine::Candidate;
+use cli_engine::CandidateAnswer;
 use command_line::Format;
-use documents::{
+use json_answers::{
     Members, candidate_value, no_candidate_value, push_value, put_sentences, put_text,
 };
 use serde_json::Value;
@@ -20,7 +20,7 @@ pub(crate) fn members_of_names(
     alloc: Global,
     format: Format,
     names: &[&str],
-    candidates: &[Option<Candidate>],
+    candidates: &[Option<CandidateAnswer>],
     sentences: &[u8],
 ) -> Result<Members, AllocError>
     ensures { IfOk result (λ members. AreMembersIn format
@@ -37,7 +37,7 @@ pub(crate) fn members_of_names(
 fn names_members(
     alloc: Global,
     names: &[&str],
-    candidates: &[Option<Candidate>],
+    candidates: &[Option<CandidateAnswer>],
     sentences: &[u8],
 ) -> Result<Members, AllocError>
     ensures { IfOk result (λ members. Spec.AreOfCandidates
@@ -53,7 +53,7 @@ fn names_members(
 fn put_candidates(
     alloc: Global,
     names: &[&str],
-    candidates: &[Option<Candidate>],
+    candidates: &[Option<CandidateAnswer>],
     members: &mut Members,
 ) -> Result<(), AllocError>
     ensures { OnOk result (members_view members.new.map.entries
@@ -74,7 +74,7 @@ fn put_candidates(
 fn name_values(
     alloc: Global,
     names: &[&str],
-    candidates: &[Option<Candidate>],
+    candidates: &[Option<CandidateAnswer>],
 ) -> Result<Vec<Value>, AllocError>
     ensures { IfOk result (λ values.
         map view values.items ≡ Spec.names_data (map (λ name. name.now) names.now) candidates.now) }
@@ -96,7 +96,7 @@ fn name_values(
 fn name_value(
     alloc: Global,
     name: &[u8],
-    candidate: Option<&Candidate>,
+    candidate: Option<&CandidateAnswer>,
 ) -> Result<Value, AllocError>
     ensures { IfOk result (λ value.
         view value ≡ Spec.name_data name.now (option_copied candidate.entry)) }
@@ -110,7 +110,7 @@ fn name_value(
 }
 
 // Whether each name has a candidate.
-fn are_all_there(candidates: &[Option<Candidate>]) -> bool
+fn are_all_there(candidates: &[Option<CandidateAnswer>]) -> bool
     ensures { result ≡ list_all is_some candidates.now }
 {
     candidates.iter().all(|candidate| candidate.is_some())

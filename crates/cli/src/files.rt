@@ -9,7 +9,7 @@ ghost use Rattle.inputs.specs.declared.shelf.ReadError.TheVariants as ReadError;
 
 use crate::host::{Host, Turn};
 use document_text::text_of;
-use inputs::{Part, Progress, Question, ReadError, Refusal, Settings, Shelf, ask};
+use inputs::{Progress, Question, ReadError, Refusal, Settings, Shelf, WholeText, ask};
 use std::alloc::{AllocError, Global};
 
 /// Where a text is.
@@ -38,33 +38,34 @@ pub struct Paths<'a> {
 
 impl<'a> Paths<'a> {
     // Where the text is that is read whole for this part.
-    fn of(&self, part: Part) -> TextAt<'a>
+    fn of(&self, part: WholeText) -> TextAt<'a>
         ensures there { (at : Files) (text : List ℕ) → text_at at result ≡ Some text
             → part_of (shelved_at at self.now) part ≡ Some (held part text) }
-        ensures missing { (at : Files) → text_at at result ≡ None → part_of (shelved_at at self.now) part ≡ None }
+        ensures missing { (at : Files) → text_at at result ≡ None
+            → part_of (shelved_at at self.now) part ≡ None }
     {
         match part {
-            Part::Status => TextAt::File(self.status),
-            Part::Sources => TextAt::File(self.sources),
-            Part::Request => self.request,
-            Part::Judged => TextAt::File(self.judged),
+            WholeText::Status => TextAt::File(self.status),
+            WholeText::Sources => TextAt::File(self.sources),
+            WholeText::Request => self.request,
+            WholeText::Judged => TextAt::File(self.judged),
         }
     }
 }
 
 /// What is remembered of the texts that were read, for sentences on a refusal.
 #[derive(Drop)]
-pub struct Seen {
+pub struct RefusalContext {
     /// The text of the request, of a file.
     pub request: Vec<u8>,
     /// The file of the index that was opened last.
     pub index: Vec<u8>,
 }
 
-impl Seen {
+impl RefusalContext {
     /// What is remembered before a text is read: nothing.
-    pub fn new(alloc: Global) -> Seen {
-        Seen {
+    pub fn new(alloc: Global) -> RefusalContext {
+        RefusalContext {
             request: Vec::new(alloc),
             index: Vec::new(alloc),
         }
@@ -72,7 +73,7 @@ impl Seen {
 }
 
 // The text again. Memory alone can fail.
-fn copied(alloc: Global, text: &[u8]) -> Result<Vec<u8>, ReadError>
+fn copy_text(alloc: Global, text: &[u8]) -> Result<Vec<u8>, ReadError>
     ensures copy { IfOk result (λ copy. copy.items ≡ text.now) }
     ensures memory { IfErr result (λ e. e ≡ ReadError.OutOfMemory) }
 {
@@ -83,13 +84,13 @@ fn copied(alloc: Global, text: &[u8]) -> Result<Vec<u8>, ReadError>
 }
 
 // The text of this part that the bytes hold: what is judged may stand in a JSON document. Memory alone can fail.
-fn held(alloc: Global, part: Part, bytes: Vec<u8>) -> Result<Vec<u8>, ReadError>
+fn held(alloc: Global, part: WholeText, bytes: Vec<u8>) -> Result<Vec<u8>, ReadError>
     ensures text { IfOk result (λ text. text.items ≡ held part bytes.items) }
     ensures memory { IfErr result (λ e. e ≡ ReadError.OutOfMemory) }
 {
     match part {
-        Part::Status | Part::Sources | Part::Request => Ok(bytes),
-        Part::Judged => match text_of(alloc, bytes) {
+        WholeText::Status | WholeText::Sources | WholeText::Request => Ok(bytes),
+        WholeText::Judged => match text_of(alloc, bytes) {
             Ok(text) => Ok(text),
             Err(AllocError) => Err(ReadError::OutOfMemory),
         },
@@ -99,24 +100,28 @@ fn held(alloc: Global, part: Part, bytes: Vec<u8>) -> Result<Vec<u8>, ReadError>
 // Remembers the text of this part, if it's the request's and that is wanted. Memory alone can fail.
 fn note_text(
     alloc: Global,
-    seen: &mut Option<Seen>,
-    part: Part,
+    context: &mut Option<RefusalContext>,
+    part: WholeText,
     text: &[u8],
 ) -> Result<(), ReadError>
     ensures { IfErr result (λ e. e ≡ ReadError.OutOfMemory) }
 {
-    if let (Some(seen), Part::Request) = (seen, part) {
-        seen.request = copied(alloc, text)?;
+    if let (Some(context), WholeText::Request) = (context, part) {
+        context.request = copy_text(alloc, text)?;
     }
     Ok(())
 }
 
 // Remembers the file of an index, if that is wanted. Memory alone can fail.
-fn note_index(alloc: Global, seen: &mut Option<Seen>, file: &[u8]) -> Result<(), ReadError>
+fn note_index(
+    alloc: Global,
+    context: &mut Option<RefusalContext>,
+    file: &[u8],
+) -> Result<(), ReadError>
     ensures { IfErr result (λ e. e ≡ ReadError.OutOfMemory) }
 {
-    if let Some(seen) = seen {
-        seen.index = copied(alloc, file)?;
+    if let Some(context) = context {
+        context.index = copy_text(alloc, file)?;
     }
     Ok(())
 }
@@ -128,7 +133,8 @@ fn read_at<H: Host>(
     place: TextAt<'_>,
     turn: Turn,
 ) -> Result<Vec<u8>, ReadError>
-    ensures found { (at : Files) → H.files host.old ≡ Some at → IfOk result (λ text. text_at at place.entry ≡ Some text.items) }
+    ensures text { (at : Files) → H.files host.old ≡ Some at
+        → IfOk result (λ text. text_at at place.entry ≡ Some text.items) }
     ensures missing { (at : Files) → H.files host.old ≡ Some at
         → IfErr result (λ e. e ≡ ReadError.Unreadable → text_at at place.entry ≡ None) }
     ensures same { H.files host.new ≡ H.files host.old }
@@ -137,7 +143,7 @@ fn read_at<H: Host>(
 {
     match place {
         TextAt::File(path) => host.read(alloc, path.as_bytes(), turn),
-        TextAt::Given(text) => copied(alloc, text),
+        TextAt::Given(text) => copy_text(alloc, text),
     }
 }
 
@@ -158,9 +164,9 @@ impl Openings {
     }
 
     // Whether the text of this part is read for the first time. It is noted.
-    fn of_part(&mut self, part: Part) -> Turn {
+    fn of_part(&mut self, part: WholeText) -> Turn {
         match part {
-            Part::Sources => {
+            WholeText::Sources => {
                 let turn = turn_of(self.sources);
                 self.sources = true;
                 turn
@@ -191,7 +197,7 @@ pub struct HostShelf<'h, 's, 'a, H> {
     /// The paths.
     pub paths: &'a Paths<'a>,
     /// What is remembered of the texts, where sentences are wanted.
-    pub seen: &'s mut Option<Seen>,
+    pub context: &'s mut Option<RefusalContext>,
     /// What was read of them.
     pub openings: Openings,
 }
@@ -199,7 +205,7 @@ pub struct HostShelf<'h, 's, 'a, H> {
 impl<'h, 's, 'a, H: Host> Shelf for HostShelf<'h, 's, 'a, H> {
     type Text = H::Text;
 
-    ghost found = { λ shelf. option_map (λ files. shelved_at files shelf.paths.now) (H.files shelf.host.now) };
+    ghost known_texts = { λ shelf. option_map (λ files. shelved_at files shelf.paths.now) (H.files shelf.host.now) };
 
     ghost faults = { λ shelf. H.faults shelf.host.now };
 
@@ -210,10 +216,10 @@ impl<'h, 's, 'a, H: Host> Shelf for HostShelf<'h, 's, 'a, H> {
         self.host.failures()
     }
 
-    fn read(&mut self, alloc: Global, part: Part) -> Result<Vec<u8>, ReadError> {
+    fn read(&mut self, alloc: Global, part: WholeText) -> Result<Vec<u8>, ReadError> {
         let turn = self.openings.of_part(part);
         let text = read_at(alloc, &mut *self.host, self.paths.of(part), turn)?;
-        note_text(alloc, &mut *self.seen, part, text.as_slice())?;
+        note_text(alloc, &mut *self.context, part, text.as_slice())?;
         held(alloc, part, text)
     }
 
@@ -228,7 +234,7 @@ impl<'h, 's, 'a, H: Host> Shelf for HostShelf<'h, 's, 'a, H> {
     }
 
     fn open(&mut self, alloc: Global, number: usize, file: &[u8]) -> Result<H::Text, ReadError> {
-        note_index(alloc, &mut *self.seen, file)?;
+        note_index(alloc, &mut *self.context, file)?;
         let turn = self.openings.of_index(number);
         self.host.open(alloc, file, turn)
     }
@@ -257,7 +263,8 @@ pub fn ask_files<H: Host, Q: Question>(
     beside: &mut Q::Beside,
 ) -> Result<Q::Answer, Refusal>
     ensures said { (at : Files) → H.files shelf.old.host.now ≡ Some at
-        → Q.says question.now (texts_of settings.now (shelved_at at shelf.old.paths.now)) (judged_at at shelf.old.paths.now.judged.now)
+        → Q.says question.now (texts_of settings.now (shelved_at at shelf.old.paths.now))
+        (judged_at at shelf.old.paths.now.judged.now)
         beside.old result beside.new }
     ensures kept { Q.keeps question.now settings.now beside.old result beside.new }
     ensures same { H.files shelf.new.host.now ≡ H.files shelf.old.host.now }

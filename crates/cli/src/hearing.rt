@@ -1,6 +1,7 @@
 //! Questions that are heard and replied to one after the other, over one reading.
 ghost use Rattle.std.specs.Prelude.{◌≡◌, refl};
 ghost use Rattle.conversation.specs.Conversation.{AreAnswered};
+ghost use Rattle.conversation.specs.Stream.{written_on};
 ghost use Rattle.conversation.specs.Turn.{IsReplied, IsTurn};
 ghost use Rattle.cli.specs.Batch.{question_bytes};
 ghost use Rattle.cli.specs.Heard.{IsReplyOver, IsSaidOfQuestions, KeepsWritten};
@@ -9,7 +10,7 @@ ghost use Rattle.text_lines.specs.Lines.{left_of};
 
 use crate::reply::reply_to;
 use cli_engine::idle_text;
-use conversation::{Ended, Talk, write_reply};
+use conversation::{Ended, Stream, Talk, Unwritten};
 use inputs::{Before, Question, Refusal, Shelf, Source, listed_in};
 use std::alloc::{AllocError, Global};
 use std::io::Write;
@@ -49,15 +50,16 @@ fn reply_on<'i, 'a, W: Write>(
     idle: &[u8],
     number: usize,
     line: &[u8],
-    out: &mut W,
+    out: &mut Stream<W>,
 ) -> Result<(), Ended>
     requires { IsListed before.now listing.now }
-    ensures { IsReplied (IsReplyOver before.now limit) line.now (W.contents out.old) (W.contents out.new) result }
+    ensures { IsReplied (IsReplyOver before.now limit) line.now (written_on W.contents out.old)
+        (written_on W.contents out.new) result }
 {
     match reply_to(alloc, before, listing, limit, idle, number, line) {
-        Ok(reply) => match write_reply(out, reply.as_slice()) {
+        Ok(reply) => match out.write(reply.as_slice()) {
             Ok(()) => Ok(()),
-            Err(_) => Err(Ended::Unwritten),
+            Err(Unwritten) => Err(Ended::Unwritten),
         },
         Err(AllocError) => Err(Ended::OutOfMemory),
     }
@@ -74,8 +76,9 @@ fn turn<'i, 'a, T: Source, W: Write>(
     talk: &mut Talk<'_, T, W>,
 ) -> Option<Ended>
     requires { IsListed before.now listing.now }
-    ensures turned { IsTurn question_bytes (IsReplyOver before.now limit) (left_of T.left talk.old.lines) (left_of T.left talk.new.lines)
-        (W.contents talk.old.out.now) (W.contents talk.new.out.now) result }
+    ensures turned { IsTurn question_bytes (IsReplyOver before.now limit)
+        (left_of T.left talk.old.lines) (left_of T.left talk.new.lines)
+        (written_on W.contents talk.old.out.now) (written_on W.contents talk.new.out.now) result }
     ensures held { talk.new.out.ghost_name ≡ talk.old.out.ghost_name }
 {
     match talk.lines.next(alloc, QUESTION_BYTES) {
@@ -117,7 +120,7 @@ fn turn<'i, 'a, T: Source, W: Write>(
 }
 
 // Hears the questions and replies to each over what is read.
-fn answered<'i, 'a, T: Source, W: Write>(
+fn answer_all<'i, 'a, T: Source, W: Write>(
     alloc: Global,
     before: &Before<'_, '_, '_, '_, '_, '_, 'i, 'a>,
     listing: &Listing<'_, 'i, 'a>,
@@ -126,8 +129,9 @@ fn answered<'i, 'a, T: Source, W: Write>(
     talk: &mut Talk<'_, T, W>,
 ) -> Ended
     requires { IsListed before.now listing.now }
-    ensures answered { AreAnswered question_bytes (IsReplyOver before.now limit) (left_of T.left talk.old.lines)
-        (W.contents talk.old.out.now) (W.contents talk.new.out.now) result }
+    ensures answered { AreAnswered question_bytes (IsReplyOver before.now limit)
+        (left_of T.left talk.old.lines)
+        (written_on W.contents talk.old.out.now) (written_on W.contents talk.new.out.now) result }
     ensures held { talk.new.out.ghost_name ≡ talk.old.out.ghost_name }
 {
     for number in 1..usize::MAX {
@@ -145,9 +149,9 @@ impl<'o, T: Source + Drop, W: Write> Question for Questions<'o, T, W> {
 
     // each line that was heard has its reply, as where it is asked alone
     ghost says = { λ it texts _ old result new. IsSaidOfQuestions texts it.limit
-        (left_of T.left old.lines) (W.contents old.out.now) (W.contents new.out.now) result };
+        (left_of T.left old.lines) (written_on W.contents old.out.now) (written_on W.contents new.out.now) result };
 
-    ghost keeps = { λ it _ old result new. KeepsWritten (W.contents old.out.now) (W.contents new.out.now) result
+    ghost keeps = { λ it _ old result new. KeepsWritten (written_on W.contents old.out.now) (written_on W.contents new.out.now) result
         × (new.out.ghost_name ≡ old.out.ghost_name) };
 
     fn answer<S: Shelf>(
@@ -159,7 +163,7 @@ impl<'o, T: Source + Drop, W: Write> Question for Questions<'o, T, W> {
     ) -> Result<Ended, Refusal> {
         let listing = listed_in(alloc, before, false)?;
         let idle = idle_text(alloc, before)?;
-        Ok(answered(alloc, before, &listing, self.limit, idle.as_slice(), talk))
+        Ok(answer_all(alloc, before, &listing, self.limit, idle.as_slice(), talk))
     }
 
     ghost refuses = { λ _ _ _ _ _ is. is };

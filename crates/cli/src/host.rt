@@ -49,7 +49,8 @@ pub trait Host {
 
     /// All bytes of the file at the path. Of one that is longer than a text may be it need be no more than shows that.
     fn read(&mut self, alloc: Global, path: &[u8], turn: Turn) -> Result<Vec<u8>, ReadError>
-        ensures found { (at : Files) → files self.old ≡ Some at → IfOk result (λ text. at path.now ≡ Some text.items) }
+        ensures text { (at : Files) → files self.old ≡ Some at
+            → IfOk result (λ text. at path.now ≡ Some text.items) }
         ensures missing { (at : Files) → files self.old ≡ Some at
             → IfErr result (λ e. e ≡ ReadError.Unreadable → at path.now ≡ None) }
         ensures same { files self.new ≡ files self.old }
@@ -58,7 +59,7 @@ pub trait Host {
 
     /// Opens the file at the path, whose text is the one that `read` would give.
     fn open(&mut self, alloc: Global, path: &[u8], turn: Turn) -> Result<Self::Text, ReadError>
-        ensures found { (at : Files) → files self.old ≡ Some at → IfOk result (λ text.
+        ensures text { (at : Files) → files self.old ≡ Some at → IfOk result (λ text.
             (bytes : List ℕ) × (at path.now ≡ Some bytes) × (Self.Text.left text ≡ Some bytes)) }
         ensures missing { (at : Files) → files self.old ≡ Some at
             → IfErr result (λ e. e ≡ ReadError.Unreadable → at path.now ≡ None) }
@@ -71,26 +72,31 @@ pub trait Host {
     fn close(&mut self, text: Self::Text)
         ensures same { files self.new ≡ files self.old }
         ensures keeps { kept self.new ≡ kept self.old }
-        ensures count { faults self.new ≡ min (faults self.old + Self.Text.faults text) (2 ^ 64 - 1) };
+        ensures count { faults self.new
+            ≡ min (faults self.old + Self.Text.faults text) (2 ^ 64 - 1) };
 
     /// The file at the path as that of a journal, which is held until it is given back. It isn't opened before the first call of it,
     /// which makes one where there is none; a file that can't be opened or made, or that is held by another run, is one whose calls
     /// fail. Memory alone can fail.
     fn journal(&mut self, alloc: Global, path: &[u8]) -> Result<Self::Journal, AllocError>
-        ensures lent { (was : Kept Self.Journal) → kept self.old ≡ Some was → Lends path.now was result (kept self.new) }
+        ensures lent { (was : Kept Self.Journal) → kept self.old ≡ Some was
+            → Lends path.now was result (kept self.new) }
         ensures same { files self.new ≡ files self.old }
         ensures count { faults self.new ≡ faults self.old };
 
     /// Takes the file of a journal back, of this path.
     fn give_back(&mut self, path: &[u8], journal: Self::Journal)
-        ensures back { (was : Kept Self.Journal) → kept self.old ≡ Some was → GivesBack path.now journal was (kept self.new) }
+        ensures back { (was : Kept Self.Journal) → kept self.old ≡ Some was
+            → GivesBack path.now journal was (kept self.new) }
         ensures same { files self.new ≡ files self.old }
         ensures count { faults self.new ≡ faults self.old };
 
     /// Puts the text in the place of what the file at the path has, or makes the file: all of it or, at an error, none.
     fn put(&mut self, alloc: Global, path: &[u8], text: &[u8]) -> Result<(), PutError>
-        ensures put { (at : Files) → files self.old ≡ Some at → Puts path.now text.now at result (files self.new) }
-        ensures noted { (was : Kept Self.Journal) → kept self.old ≡ Some was → NotesPut path.now text.now was result (kept self.new) }
+        ensures put { (at : Files) → files self.old ≡ Some at
+            → Puts path.now text.now at result (files self.new) }
+        ensures noted { (was : Kept Self.Journal) → kept self.old ≡ Some was
+            → NotesPut path.now text.now was result (kept self.new) }
         ensures count { faults self.new ≡ faults self.old };
 
     /// Puts the text as `put` does while the journal of the path `at` is held, and then takes that back.
@@ -102,7 +108,8 @@ pub trait Host {
         path: &[u8],
         text: &[u8],
     ) -> Result<(), PutError>
-        ensures put { (files_at : Files) → files self.old ≡ Some files_at → Puts path.now text.now files_at result (files self.new) }
+        ensures put { (files_at : Files) → files self.old ≡ Some files_at
+            → Puts path.now text.now files_at result (files self.new) }
         ensures back { (was : Kept Self.Journal) → kept self.old ≡ Some was
             → Finishes at.now journal path.now text.now was result (kept self.new) }
         ensures count { faults self.new ≡ faults self.old };

@@ -5,7 +5,7 @@ ghost use Rattle.cli.specs.Members.{AreAddedIn};
 ghost use Rattle.serde_json.specs.View.{members_view};
 
 use command_line::Format;
-use documents::{Members, put_text_lines, text_value};
+use json_answers::{Members, put_text_lines, text_value};
 use std::alloc::{AllocError, Global};
 
 /// Puts what is left of a request, where its answer is written as a document: as `request` its text, and as `kept_back` the lines that

@@ -28,7 +28,8 @@ mod request;
 mod told;
 mod versions;
 
-pub use files::{HostShelf, Openings, Paths, Seen, TextAt, ask_files};
+pub use conversation::Stream;
+pub use files::{HostShelf, Openings, Paths, RefusalContext, TextAt, ask_files};
 pub use host::{Host, PutError, Turn};
 pub use inputs::{Progress, ReadError, ReadFailed, Settings, Source};
 pub use outcomes::refuse_for_memory;

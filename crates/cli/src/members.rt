@@ -2,7 +2,7 @@
 ghost use Rattle.std.specs.Prelude.{◌≡◌, IfOk, OnOk};
 ghost use Rattle.cli.specs.Members as Spec;
 ghost use Rattle.cli.specs.Members.{AreMembersIn, members_in};
-ghost use Rattle.documents.specs.Steps.{AreWithSteps};
+ghost use Rattle.json_answers.specs.Steps.{AreWithSteps};
 ghost use Rattle.serde_json.specs.View.{members_view};
 
 use crate::archives::archives_of;
@@ -10,10 +10,10 @@ use cli_engine::{
     Answered, JudgedPlan, JudgedRefutation, RefutationVerdict, Settings, Solved, Undecided,
 };
 use command_line::Format;
-use documents::{
+use inputs::Shelf;
+use json_answers::{
     Members, put_bad_line, put_sentences, put_steps, put_text, put_undecided, put_verdict,
 };
-use inputs::Shelf;
 use rules::Step;
 use std::alloc::{AllocError, Global};
 
@@ -191,7 +191,9 @@ fn put_solution<S: Shelf>(
     solved: &Solved,
     members: &mut Members,
 ) -> Result<(), AllocError>
-    ensures steps { OnOk result (Spec.AreStepped solved.now (members_view members.old.map.entries) (members_view members.new.map.entries)) }
+    ensures steps { OnOk result
+        (Spec.AreStepped solved.now (members_view members.old.map.entries)
+        (members_view members.new.map.entries)) }
     ensures held { S.holds shelf.old shelf.new }
 {
     match solved {
@@ -208,7 +210,9 @@ fn put_plan<S: Shelf>(
     steps: &[Step],
     members: &mut Members,
 ) -> Result<(), AllocError>
-    ensures steps { OnOk result (AreWithSteps steps.now (members_view members.old.map.entries) (members_view members.new.map.entries)) }
+    ensures steps { OnOk result
+        (AreWithSteps steps.now (members_view members.old.map.entries)
+        (members_view members.new.map.entries)) }
     ensures held { S.holds shelf.old shelf.new }
 {
     let archives = archives_of(alloc, shelf, settings, steps)?;

@@ -6,14 +6,14 @@ ghost use Rattle.cli.specs.Members.{AreMembersOf, AreOfCandidates};
 ghost use Rattle.serde_json.specs.View.{members_view};
 
 use crate::arguments::Arguments;
-use crate::asking::{seen_if, show, want};
+use crate::asking::{context_if, show, want};
 use crate::candidate_members::members_of_names;
 use crate::files::{HostShelf, Openings, ask_files};
 use crate::host::Host;
 use crate::told::tell_refusal;
-use cli_engine::{Candidate, Candidates, Notes, Refusal};
+use cli_engine::{CandidateAnswer, FindCandidates, Notes, Refusal};
 use command_line::Format;
-use documents::Members;
+use json_answers::Members;
 use outcomes::{Outcome, outcome_in, outcome_of_candidates};
 use rules::Items;
 use std::alloc::{AllocError, Global};
@@ -23,7 +23,7 @@ fn members_of(
     alloc: Global,
     format: Format,
     names: &[&str],
-    answer: &Result<Items<Option<Candidate>>, Refusal>,
+    answer: &Result<Items<Option<CandidateAnswer>>, Refusal>,
     sentences: &[u8],
 ) -> Result<Members, AllocError>
     ensures { IfOk result (λ members. AreMembersOf
@@ -47,7 +47,8 @@ pub(crate) fn outcome_of_names<H: Host>(
     notes: &mut Notes,
 ) -> Result<Outcome, AllocError>
     ensures printed { (at : Files) → H.files host.old ≡ Some at → IfOk result (λ outcome.
-        IsOutcomeOfNames (texts_at at arguments.now) (map (λ name. name.now) names.now) arguments.now.format outcome) }
+        IsOutcomeOfNames (texts_at at arguments.now)
+        (map (λ name. name.now) names.now) arguments.now.format outcome) }
     ensures same { H.files host.new ≡ H.files host.old }
     ensures keeps { H.kept host.new ≡ H.kept host.old }
 {
@@ -58,14 +59,14 @@ pub(crate) fn outcome_of_names<H: Host>(
         format,
         ..
     } = *arguments;
-    let mut seen = seen_if(alloc, explains);
+    let mut context = context_if(alloc, explains);
     let mut shelf = HostShelf {
         host,
         paths: &arguments.paths,
-        seen: &mut seen,
+        context: &mut context,
         openings: Openings::none(),
     };
-    let question = Candidates {
+    let question = FindCandidates {
         names,
         tells_versions: explains,
     };

@@ -26,7 +26,9 @@ fn push_place<'a>(
     path: &'a [u8],
     words: &str,
 ) -> Result<(), AllocError>
-    ensures { OnOk result (map (λ place. place.path.now) places.new.items ≡ map (λ place. place.path.now) places.old.items ++ path.now ∷ []) }
+    ensures { OnOk result
+        (map (λ place. place.path.now) places.new.items
+        ≡ map (λ place. place.path.now) places.old.items ++ path.now ∷ []) }
 {
     let words = words.to_string(alloc)?;
     places.push(Place { path, words })?;
@@ -35,7 +37,8 @@ fn push_place<'a>(
 
 // The places of the files at these paths.
 fn places_read<'a>(alloc: Global, paths: &Paths<'a>) -> Result<Vec<Place<'a>>, AllocError>
-    ensures { IfOk result (λ places. map (λ place. place.path.now) places.items ≡ paths_read paths.now) }
+    ensures { IfOk result
+        (λ places. map (λ place. place.path.now) places.items ≡ paths_read paths.now) }
 {
     let mut places = Vec::new(alloc);
     push_place(alloc, &mut places, paths.status.as_bytes(), "--status")?;
@@ -52,7 +55,9 @@ fn places_read<'a>(alloc: Global, paths: &Paths<'a>) -> Result<Vec<Place<'a>>, A
 
 // The places of these indices, by their numbers, counted from 1.
 fn places_of_indices<'a>(alloc: Global, files: &'a [Vec<u8>]) -> Result<Vec<Place<'a>>, AllocError>
-    ensures { IfOk result (λ places. map (λ place. place.path.now) places.items ≡ map (λ file. file.items) files.now) }
+    ensures { IfOk result
+        (λ places. map (λ place. place.path.now) places.items
+        ≡ map (λ file. file.items) files.now) }
 {
     let mut places = Vec::new(alloc);
     let mut number = 0usize;
@@ -89,10 +94,13 @@ fn one_file<H: Host>(
     target: Target<'_>,
     places: &[Place<'_>],
 ) -> Result<Option<Outcome>, AllocError>
-    ensures printed { IfOk result (λ found. MatchOption found ⊤ IsOutcomeOfOneFile) }
-    ensures apart { (at : Files) → H.files host.now ≡ Some at → IfOk result (λ found. MatchOption found
-        (AreApart target.entry.journal.now target.entry.output.now (map (λ place. place.path.now) places.now))
-        (λ _. ¬ AreApart target.entry.journal.now target.entry.output.now (map (λ place. place.path.now) places.now))) }
+    ensures printed { IfOk result (λ outcome. MatchOption outcome ⊤ IsOutcomeOfOneFile) }
+    ensures apart { (at : Files) → H.files host.now ≡ Some at
+        → IfOk result (λ outcome. MatchOption outcome
+        (AreApart target.entry.journal.now target.entry.output.now
+        (map (λ place. place.path.now) places.now))
+        (λ _. ¬ AreApart target.entry.journal.now target.entry.output.now
+        (map (λ place. place.path.now) places.now))) }
 {
     let Target { journal, output } = target;
     if host.is_same_file(journal, output) {
@@ -116,8 +124,9 @@ pub(crate) fn one_file_of_paths<H: Host>(
     target: Target<'_>,
     paths: &Paths<'_>,
 ) -> Result<Option<Outcome>, AllocError>
-    ensures printed { IfOk result (λ found. MatchOption found ⊤ IsOutcomeOfOneFile) }
-    ensures apart { (at : Files) → H.files host.now ≡ Some at → IfOk result (λ found. MatchOption found
+    ensures printed { IfOk result (λ outcome. MatchOption outcome ⊤ IsOutcomeOfOneFile) }
+    ensures apart { (at : Files) → H.files host.now ≡ Some at
+        → IfOk result (λ outcome. MatchOption outcome
         (AreApart target.entry.journal.now target.entry.output.now (paths_read paths.now))
         (λ _. ¬ AreApart target.entry.journal.now target.entry.output.now (paths_read paths.now))) }
 {
@@ -132,8 +141,9 @@ pub(crate) fn one_file_of_indices<H: Host>(
     target: Target<'_>,
     plan: &GoodPlan,
 ) -> Result<Option<Outcome>, AllocError>
-    ensures printed { IfOk result (λ found. MatchOption found ⊤ IsOutcomeOfOneFile) }
-    ensures apart { (at : Files) → H.files host.now ≡ Some at → IfOk result (λ found. MatchOption found
+    ensures printed { IfOk result (λ outcome. MatchOption outcome ⊤ IsOutcomeOfOneFile) }
+    ensures apart { (at : Files) → H.files host.now ≡ Some at
+        → IfOk result (λ outcome. MatchOption outcome
         (AreApart target.entry.journal.now target.entry.output.now plan.now.indices)
         (λ _. ¬ AreApart target.entry.journal.now target.entry.output.now plan.now.indices)) }
 {

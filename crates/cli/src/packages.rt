@@ -9,13 +9,13 @@ ghost use Rattle.command_line.specs.Asked.{survey_by};
 ghost use Rattle.installable.specs.Answers.{IsSaidOfPackages};
 
 use crate::arguments::Arguments;
-use crate::asking::{is_document, seen_if};
+use crate::asking::{context_if, is_document};
 use crate::files::{HostShelf, Openings, ask_files};
 use crate::host::Host;
 use crate::refutations::{files_of_survey, put_files};
 use crate::told::tell_refusal;
 use cli_engine::Notes;
-use command_line::{Format, Shard as ShardWords, Survey};
+use command_line::{Format, ShardNumber as ShardWords, Survey};
 use inputs::Refusal;
 use installable::{Installability, Installable, PackageAnswer, Shard, Surveyed};
 use outcomes::{Outcome, outcome_of_refusal, outcome_of_survey, outcome_of_surveyed};
@@ -63,11 +63,11 @@ fn said_of_packages<H: Host>(
         explains,
         ..
     } = *arguments;
-    let mut seen = seen_if(alloc, explains);
+    let mut context = context_if(alloc, explains);
     let mut shelf = HostShelf {
         host,
         paths: &arguments.paths,
-        seen: &mut seen,
+        context: &mut context,
         openings: Openings::none(),
     };
     let said = ask_files(alloc, &mut shelf, &settings, question, &mut ());
@@ -78,10 +78,10 @@ fn said_of_packages<H: Host>(
 // Tells the reasons of a request of this subject, if it is refuted, below a line with the subject.
 fn tell_reasons(
     subject: &[u8],
-    found: &Installability,
+    installability: &Installability,
     notes: &mut Notes,
 ) -> Result<(), AllocError> {
-    match found {
+    match installability {
         Installability::Broken(refuted) => {
             notes.add(subject)?;
             notes.add(b":\n")?;
@@ -92,11 +92,15 @@ fn tell_reasons(
 }
 
 // Tells the reasons of a package that can't be installed.
-fn tell_package(alloc: Global, found: &PackageAnswer, notes: &mut Notes) -> Result<(), AllocError> {
-    let mut subject = found.name.as_bytes().to_vec(alloc)?;
+fn tell_package(
+    alloc: Global,
+    answer: &PackageAnswer,
+    notes: &mut Notes,
+) -> Result<(), AllocError> {
+    let mut subject = answer.name.as_bytes().to_vec(alloc)?;
     subject.extend_from_slice(b" ")?;
-    subject.extend_from_slice(found.version.as_bytes())?;
-    tell_reasons(subject.as_slice(), &found.installability, notes)
+    subject.extend_from_slice(answer.version.as_bytes())?;
+    tell_reasons(subject.as_slice(), &answer.installability, notes)
 }
 
 // Tells the reasons of each answer that is a no, in the order of the answers.
@@ -107,8 +111,8 @@ fn tell_survey(
 ) -> Result<(), AllocError> {
     if let Ok(surveyed) = said {
         tell_reasons(b"base", &surveyed.base, notes)?;
-        for found in surveyed.packages.as_slice() {
-            tell_package(alloc, found, notes)?;
+        for answer in surveyed.packages.as_slice() {
+            tell_package(alloc, answer, notes)?;
         }
     }
     Ok(())
@@ -123,8 +127,10 @@ fn outcome_of_answers<H: Host>(
     surveyed: &Surveyed,
 ) -> Result<Outcome, AllocError>
     ensures printed { IfOk result (IsOutcomeOfSurveyIn (Some folder.now) format (Ok surveyed.now)) }
-    ensures left { (at : Files) (was : Kept H.Journal) → H.files host.old ≡ Some at → H.kept host.old ≡ Some was → IsLeftWith
-        (IsLeftOfSurveyIn (Some folder.now) format (Ok surveyed.now) at was) at was result (H.files host.new) (H.kept host.new) }
+    ensures left { (at : Files) (was : Kept H.Journal) → H.files host.old ≡ Some at
+        → H.kept host.old ≡ Some was → IsLeftWith
+        (IsLeftOfSurveyIn (Some folder.now) format (Ok surveyed.now) at was) at was result
+        (H.files host.new) (H.kept host.new) }
 {
     let printed = outcome_of_surveyed(alloc, format, surveyed)?;
     let files = files_of_survey(alloc, folder, surveyed)?;
@@ -143,8 +149,10 @@ fn outcome_in_folder<H: Host>(
     said: &Result<Surveyed, Refusal>,
 ) -> Result<Outcome, AllocError>
     ensures printed { IfOk result (IsOutcomeOfSurveyIn (Some folder.now) format said.now) }
-    ensures left { (at : Files) (was : Kept H.Journal) → H.files host.old ≡ Some at → H.kept host.old ≡ Some was → IsLeftWith
-        (IsLeftOfSurveyIn (Some folder.now) format said.now at was) at was result (H.files host.new) (H.kept host.new) }
+    ensures left { (at : Files) (was : Kept H.Journal) → H.files host.old ≡ Some at
+        → H.kept host.old ≡ Some was → IsLeftWith
+        (IsLeftOfSurveyIn (Some folder.now) format said.now at was) at was result (H.files host.new)
+        (H.kept host.new) }
 {
     match said {
         Ok(surveyed) => outcome_of_answers(alloc, host, folder, format, surveyed),
@@ -160,8 +168,10 @@ fn outcome_of_said<H: Host>(
     format: Format,
     said: &Result<Surveyed, Refusal>,
 ) -> Result<Outcome, AllocError>
-    ensures printed { IfOk result (IsOutcomeOfSurveyIn (option_map (λ path. path.now) folder.entry) format said.now) }
-    ensures left { (at : Files) (was : Kept H.Journal) → H.files host.old ≡ Some at → H.kept host.old ≡ Some was → IsLeftWith
+    ensures printed { IfOk result
+        (IsOutcomeOfSurveyIn (option_map (λ path. path.now) folder.entry) format said.now) }
+    ensures left { (at : Files) (was : Kept H.Journal) → H.files host.old ≡ Some at
+        → H.kept host.old ≡ Some was → IsLeftWith
         (IsLeftOfSurveyIn (option_map (λ path. path.now) folder.entry) format said.now at was)
         at was result (H.files host.new) (H.kept host.new) }
 {
@@ -181,10 +191,13 @@ pub(crate) fn outcome_of_packages<H: Host>(
     folder: Option<&str>,
     notes: &mut Notes,
 ) -> Result<Outcome, AllocError>
-    ensures printed { (at : Files) → H.files host.old ≡ Some at → IfOk result (IsOutcomeOfPackages (texts_at at arguments.now)
+    ensures printed { (at : Files) → H.files host.old ≡ Some at
+        → IfOk result (IsOutcomeOfPackages (texts_at at arguments.now)
         (survey_by survey.now) (option_map (λ path. path.now) folder.entry) arguments.now.format) }
-    ensures left { (at : Files) (was : Kept H.Journal) → H.files host.old ≡ Some at → H.kept host.old ≡ Some was → IsLeftWith
-        (IsLeftOfPackages (texts_at at arguments.now) (survey_by survey.now) (option_map (λ path. path.now) folder.entry)
+    ensures left { (at : Files) (was : Kept H.Journal) → H.files host.old ≡ Some at
+        → H.kept host.old ≡ Some was → IsLeftWith
+        (IsLeftOfPackages (texts_at at arguments.now) (survey_by survey.now)
+        (option_map (λ path. path.now) folder.entry)
         arguments.now.format at was)
         at was result (H.files host.new) (H.kept host.new) }
 {

@@ -6,15 +6,15 @@ ghost use Rattle.cli.specs.Members.{AreMembersOf, AreOfPlan};
 ghost use Rattle.serde_json.specs.View.{members_view};
 
 use crate::arguments::Arguments;
-use crate::asking::{seen_if, show, want};
+use crate::asking::{context_if, show, want};
 use crate::files::{HostShelf, Openings, ask_files};
 use crate::host::Host;
 use crate::members::members_of_plan;
 use crate::told::{tell_refusal, tell_unfinished};
 use cli_engine::{CheckPlan, JudgedPlan, Notes, Refusal, Settings};
 use command_line::Format;
-use documents::Members;
 use inputs::Shelf;
+use json_answers::Members;
 use outcomes::{Outcome, outcome_in, outcome_of_plan};
 use std::alloc::{AllocError, Global};
 
@@ -53,7 +53,8 @@ pub(crate) fn outcome_of_plan_judged<H: Host>(
     notes: &mut Notes,
 ) -> Result<Outcome, AllocError>
     ensures printed { (at : Files) → H.files host.old ≡ Some at → IfOk result (λ outcome.
-        IsOutcomeOfPlanJudged (texts_at at arguments.now) (judged_at at arguments.now.paths.judged.now) arguments.now.format outcome) }
+        IsOutcomeOfPlanJudged (texts_at at arguments.now)
+        (judged_at at arguments.now.paths.judged.now) arguments.now.format outcome) }
     ensures same { H.files host.new ≡ H.files host.old }
     ensures keeps { H.kept host.new ≡ H.kept host.old }
 {
@@ -64,11 +65,11 @@ pub(crate) fn outcome_of_plan_judged<H: Host>(
         format,
         ..
     } = *arguments;
-    let mut seen = seen_if(alloc, explains);
+    let mut context = context_if(alloc, explains);
     let mut shelf = HostShelf {
         host,
         paths: &arguments.paths,
-        seen: &mut seen,
+        context: &mut context,
         openings: Openings::none(),
     };
     let answer = ask_files(alloc, &mut shelf, &settings, &CheckPlan {}, notes);

@@ -8,7 +8,7 @@ ghost use Rattle.cli.specs.Leaving.{IsLeftOfKept, IsLeftOfPossible, IsLeftWith};
 ghost use Rattle.cli.specs.Possible.{IsOutcomeOfPossible, IsPrintedOfKept, IsPrintedOfPut, IsPrintedWhere, IsSaidOfLeft};
 
 use crate::arguments::Arguments;
-use crate::asking::{is_document, seen_if, show, want};
+use crate::asking::{context_if, is_document, show, want};
 use crate::files::{HostShelf, Openings, ask_files};
 use crate::host::{Host, PutError};
 use crate::left_members::put_left;
@@ -123,8 +123,10 @@ fn outcome_of_put<H: Host>(
     notes: &mut Notes,
 ) -> Result<Outcome, AllocError>
     ensures printed { IfOk result (IsPrintedWhere (Some output.now) left.printed) }
-    ensures left { (at : Files) (was : Kept H.Journal) → H.files host.old ≡ Some at → H.kept host.old ≡ Some was → IsLeftWith
-        (IsLeftOfKept (Some output.now) left.request left.printed at was) at was result (H.files host.new) (H.kept host.new) }
+    ensures left { (at : Files) (was : Kept H.Journal) → H.files host.old ≡ Some at
+        → H.kept host.old ≡ Some was → IsLeftWith
+        (IsLeftOfKept (Some output.now) left.request left.printed at was) at was result
+        (H.files host.new) (H.kept host.new) }
 {
     let put = host.put(alloc, output.as_bytes(), left.request.as_slice());
     outcome_of_request_put(alloc, explains, put, left, notes)
@@ -139,8 +141,10 @@ fn outcome_of_left<H: Host>(
     left: Left,
     notes: &mut Notes,
 ) -> Result<Outcome, AllocError>
-    ensures printed { IfOk result (IsPrintedWhere (option_map (λ path. path.now) output.entry) left.printed) }
-    ensures left { (at : Files) (was : Kept H.Journal) → H.files host.old ≡ Some at → H.kept host.old ≡ Some was → IsLeftWith
+    ensures printed { IfOk result
+        (IsPrintedWhere (option_map (λ path. path.now) output.entry) left.printed) }
+    ensures left { (at : Files) (was : Kept H.Journal) → H.files host.old ≡ Some at
+        → H.kept host.old ≡ Some was → IsLeftWith
         (IsLeftOfKept (option_map (λ path. path.now) output.entry) left.request left.printed at was)
         at was result (H.files host.new) (H.kept host.new) }
 {
@@ -162,7 +166,8 @@ fn answer_of_possible<H: Host>(
     notes: &mut Notes,
 ) -> Result<Result<Left, Refusal>, AllocError>
     ensures said { (at : Files) → H.files host.old ≡ Some at
-        → IfOk result (λ left. IsSaidOfLeft (texts_at at arguments.now) limit arguments.now.format left) }
+        → IfOk result
+        (λ left. IsSaidOfLeft (texts_at at arguments.now) limit arguments.now.format left) }
     ensures same { H.files host.new ≡ H.files host.old }
     ensures keeps { H.kept host.new ≡ H.kept host.old }
 {
@@ -172,11 +177,11 @@ fn answer_of_possible<H: Host>(
         format,
         ..
     } = *arguments;
-    let mut seen = seen_if(alloc, explains);
+    let mut context = context_if(alloc, explains);
     let mut shelf = HostShelf {
         host,
         paths: &arguments.paths,
-        seen: &mut seen,
+        context: &mut context,
         openings: Openings::none(),
     };
     let question = KeepBack {
@@ -206,10 +211,14 @@ pub(crate) fn outcome_of_possible<H: Host>(
     output: Option<&str>,
     notes: &mut Notes,
 ) -> Result<Outcome, AllocError>
-    ensures printed { (at : Files) → H.files host.old ≡ Some at → IfOk result (λ outcome. IsOutcomeOfPossible
-        (texts_at at arguments.now) limit (option_map (λ path. path.now) output.entry) arguments.now.format outcome) }
-    ensures left { (at : Files) (was : Kept H.Journal) → H.files host.old ≡ Some at → H.kept host.old ≡ Some was → IsLeftWith
-        (IsLeftOfPossible (texts_at at arguments.now) limit (option_map (λ path. path.now) output.entry) arguments.now.format at was)
+    ensures printed { (at : Files) → H.files host.old ≡ Some at
+        → IfOk result (λ outcome. IsOutcomeOfPossible
+        (texts_at at arguments.now) limit
+        (option_map (λ path. path.now) output.entry) arguments.now.format outcome) }
+    ensures left { (at : Files) (was : Kept H.Journal) → H.files host.old ≡ Some at
+        → H.kept host.old ≡ Some was → IsLeftWith
+        (IsLeftOfPossible (texts_at at arguments.now) limit
+        (option_map (λ path. path.now) output.entry) arguments.now.format at was)
         at was result (H.files host.new) (H.kept host.new) }
 {
     want(arguments, notes);

@@ -7,8 +7,8 @@ ghost use Rattle.cli.specs.Leaving.{IsLeftOfAsked, IsLeftOfExtent, IsLeftOrUntol
 ghost use Rattle.cli.specs.Told.{IsBatchIn, IsLeftTold, IsOutcomeOfCall, IsSingle, IsToldBy, printed_later};
 ghost use Rattle.cli.specs.Words.{IsLeftOfWords, IsOutcomeOfWords};
 ghost use Rattle.command_line.specs.Asked.{asked_by, extent_by, given_by};
-ghost use Rattle.outcomes.specs.Outcome.{IsOutcomeOfMemory, IsWritten};
-ghost use Rattle.outcomes.specs.declared.outcome.Outcome.{Outcome as Found};
+ghost use Rattle.outcomes.specs.Outcome.{IsOutcomeOfMemory, IsWritten, streams_on};
+ghost use Rattle.outcomes.specs.declared.outcome.Outcome.{Outcome as OutcomeOf};
 
 use crate::applied::{Target, outcome_of_applied};
 use crate::arguments::{Arguments, arguments_by, goals_of, place_of};
@@ -23,7 +23,8 @@ use crate::refuted::outcome_of_lines;
 use crate::request::outcome_of_request;
 use crate::versions::outcome_of_versions;
 use cli_engine::Notes;
-use command_line::{Call, Extent, Format, Options, call_of, joined, mistake, texts_of};
+use command_line::{Call, Extent, Format, Options, call_of, joined_words, mistake, texts_of};
+use conversation::Stream;
 use outcomes::{Outcome, outcome_of_usage, print, refuse_for_memory};
 use std::alloc::{AllocError, Global};
 use std::io::Write;
@@ -39,14 +40,22 @@ pub fn run<H: Host, W: Write, E: Write>(
     alloc: Global,
     words: &[Vec<u8>],
     host: &mut H,
-    out: &mut W,
-    err: &mut E,
+    out: &mut Stream<W>,
+    err: &mut Stream<E>,
 ) -> u8
-    ensures printed { (found : Found) × (IsOutcomeOfWords (H.files host.old) (map (λ word. word.items) words.now) found
-        ⊎ IsOutcomeOfMemory found) × IsWritten found (W.contents out.old) (W.contents out.new) result }
-    ensures left { (at : Files) (was : Kept H.Journal) → H.files host.old ≡ Some at → H.kept host.old ≡ Some was → (found : Found)
-        × IsLeftOrUntold (IsLeftOfWords H.Journal.honest H.Journal.facts (map (λ word. word.items) words.now) at was)
-        at was found (H.files host.new) (H.kept host.new) × IsWritten found (W.contents out.old) (W.contents out.new) result }
+    ensures printed { (outcome : OutcomeOf)
+        × (IsOutcomeOfWords (H.files host.old) (map (λ word. word.items) words.now) outcome
+        ⊎ IsOutcomeOfMemory outcome)
+        × IsWritten outcome (streams_on W.contents E.contents out.old err.old)
+        (streams_on W.contents E.contents out.new err.new) result }
+    ensures left { (at : Files) (was : Kept H.Journal) → H.files host.old ≡ Some at
+        → H.kept host.old ≡ Some was → (outcome : OutcomeOf)
+        × IsLeftOrUntold
+        (IsLeftOfWords H.Journal.honest H.Journal.facts
+        (map (λ word. word.items) words.now) at was)
+        at was outcome (H.files host.new) (H.kept host.new)
+        × IsWritten outcome (streams_on W.contents E.contents out.old err.old)
+        (streams_on W.contents E.contents out.new err.new) result }
 {
     let mut notes = Notes::new(alloc);
     match told_of_words(alloc, words, host, &mut notes, out, err) {
@@ -77,7 +86,8 @@ fn to_print(outcome: Result<Outcome, AllocError>) -> Result<Told, AllocError>
 
 // By which files the questions of a call are answered, and how many conflicts a search may have, where it asks for that.
 fn batch_in<'c, 'a>(call: &'c Call<'a>) -> Option<(&'c Options<'a>, u32)>
-    ensures { IsBatchIn (asked_by call.entry.now) (option_map (λ batch. (given_by batch.0.now, batch.1)) result) }
+    ensures { IsBatchIn (asked_by call.entry.now)
+        (option_map (λ batch. (given_by batch.0.now, batch.1)) result) }
 {
     match call {
         Call::Batch { options, limit } => Some((options, *limit)),
@@ -91,20 +101,26 @@ fn told_of_words<H: Host, W: Write, E: Write>(
     words: &[Vec<u8>],
     host: &mut H,
     notes: &mut Notes,
-    out: &mut W,
-    err: &mut E,
+    out: &mut Stream<W>,
+    err: &mut Stream<E>,
 ) -> Result<Told, AllocError>
-    ensures printed { IfOk result (IsToldBy (IsOutcomeOfWords (H.files host.old) (map (λ word. word.items) words.now))
-        (W.contents out.old) (W.contents out.new)) }
-    ensures unwritten { IfErr result (λ _. W.contents out.new ≡ W.contents out.old) }
-    ensures left { (at : Files) (was : Kept H.Journal) → H.files host.old ≡ Some at → H.kept host.old ≡ Some was → IsLeftTold
+    ensures printed { IfOk result
+        (IsToldBy (IsOutcomeOfWords (H.files host.old) (map (λ word. word.items) words.now))
+        (streams_on W.contents E.contents out.old err.old)
+        (streams_on W.contents E.contents out.new err.new)) }
+    ensures unwritten { IfErr result (λ _. streams_on W.contents E.contents out.new err.new
+        ≡ streams_on W.contents E.contents out.old err.old) }
+    ensures left { (at : Files) (was : Kept H.Journal) → H.files host.old ≡ Some at
+        → H.kept host.old ≡ Some was → IsLeftTold
         (IsLeftOfWords H.Journal.honest H.Journal.facts (map (λ word. word.items) words.now) at was)
-        at was result (H.files host.new) (H.kept host.new) (W.contents out.old) (W.contents out.new) }
+        at was result (H.files host.new) (H.kept host.new)
+        (streams_on W.contents E.contents out.old err.old)
+        (streams_on W.contents E.contents out.new err.new) }
 {
     let Some(texts) = texts_of(alloc, words)? else {
         return to_print(outcome_of_usage(alloc, &mistake(alloc, "an argument isn't UTF-8")));
     };
-    let words = joined(alloc, texts.as_slice())?;
+    let words = joined_words(alloc, texts.as_slice())?;
     match call_of(alloc, words.as_slice()) {
         Ok(call) => told_of_call(alloc, &call, host, notes, out, err),
         Err(error) => to_print(outcome_of_usage(alloc, &error)),
@@ -117,14 +133,21 @@ fn told_of_call<H: Host, W: Write, E: Write>(
     call: &Call<'_>,
     host: &mut H,
     notes: &mut Notes,
-    out: &mut W,
-    err: &mut E,
+    out: &mut Stream<W>,
+    err: &mut Stream<E>,
 ) -> Result<Told, AllocError>
-    ensures printed { IfOk result (IsToldBy (IsOutcomeOfCall (H.files host.old) (asked_by call.now)) (W.contents out.old) (W.contents out.new)) }
-    ensures unwritten { IfErr result (λ _. W.contents out.new ≡ W.contents out.old) }
-    ensures left { (at : Files) (was : Kept H.Journal) → H.files host.old ≡ Some at → H.kept host.old ≡ Some was → IsLeftTold
+    ensures printed { IfOk result
+        (IsToldBy (IsOutcomeOfCall (H.files host.old) (asked_by call.now))
+        (streams_on W.contents E.contents out.old err.old)
+        (streams_on W.contents E.contents out.new err.new)) }
+    ensures unwritten { IfErr result (λ _. streams_on W.contents E.contents out.new err.new
+        ≡ streams_on W.contents E.contents out.old err.old) }
+    ensures left { (at : Files) (was : Kept H.Journal) → H.files host.old ≡ Some at
+        → H.kept host.old ≡ Some was → IsLeftTold
         (IsLeftOfAsked H.Journal.honest H.Journal.facts (asked_by call.now) at was)
-        at was result (H.files host.new) (H.kept host.new) (W.contents out.old) (W.contents out.new) }
+        at was result (H.files host.new) (H.kept host.new)
+        (streams_on W.contents E.contents out.old err.old)
+        (streams_on W.contents E.contents out.new err.new) }
 {
     match batch_in(call) {
         Some((options, limit)) => {
@@ -146,7 +169,8 @@ fn outcome_of_call<H: Host>(
     requires { IsSingle (asked_by call.now) }
     ensures printed { (at : Files) → H.files host.old ≡ Some at
         → IfOk result (λ outcome. IsOutcomeOfAsked at (asked_by call.now) outcome) }
-    ensures left { (at : Files) (was : Kept H.Journal) → H.files host.old ≡ Some at → H.kept host.old ≡ Some was → IsLeftWith
+    ensures left { (at : Files) (was : Kept H.Journal) → H.files host.old ≡ Some at
+        → H.kept host.old ≡ Some was → IsLeftWith
         (IsLeftOfAsked H.Journal.honest H.Journal.facts (asked_by call.now) at was)
         at was result (H.files host.new) (H.kept host.new) }
 {
@@ -239,9 +263,12 @@ fn outcome_of_extent<H: Host>(
     notes: &mut Notes,
 ) -> Result<Outcome, AllocError>
     ensures printed { (at : Files) → H.files host.old ≡ Some at → IfOk result (λ outcome.
-        IsOutcomeOfExtent (texts_at at arguments.now) limit (extent_by extent.now) arguments.now.format outcome) }
-    ensures left { (at : Files) (was : Kept H.Journal) → H.files host.old ≡ Some at → H.kept host.old ≡ Some was → IsLeftWith
-        (IsLeftOfExtent (texts_at at arguments.now) limit (extent_by extent.now) arguments.now.format at was)
+        IsOutcomeOfExtent (texts_at at arguments.now) limit
+        (extent_by extent.now) arguments.now.format outcome) }
+    ensures left { (at : Files) (was : Kept H.Journal) → H.files host.old ≡ Some at
+        → H.kept host.old ≡ Some was → IsLeftWith
+        (IsLeftOfExtent (texts_at at arguments.now) limit
+        (extent_by extent.now) arguments.now.format at was)
         at was result (H.files host.new) (H.kept host.new) }
 {
     match extent {

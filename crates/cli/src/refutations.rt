@@ -28,7 +28,8 @@ fn placed_in(
     ending: &[u8],
     text: &[u8],
 ) -> Result<Placed, AllocError>
-    ensures { IfOk result (λ placed. placed ≡ Spec.placed_in folder.now stem.now ending.now text.now) }
+    ensures { IfOk result
+        (λ placed. placed ≡ Spec.placed_in folder.now stem.now ending.now text.now) }
 {
     let mut path = folder.as_bytes().to_vec(alloc)?;
     path.extend_from_slice(b"/")?;
@@ -46,11 +47,13 @@ fn push_files(
     files: &mut Vec<Placed>,
     folder: &str,
     stem: &[u8],
-    found: &Installability,
+    installability: &Installability,
 ) -> Result<(), AllocError>
-    ensures { OnOk result (files.new.items ≡ files.old.items ++ Spec.files_of folder.now stem.now found.now) }
+    ensures { OnOk result
+        (files.new.items ≡ files.old.items
+        ++ Spec.files_of folder.now stem.now installability.now) }
 {
-    match found {
+    match installability {
         Installability::Broken(refuted) => {
             let request = refuted.request.as_slice();
             let refutation = refuted.refutation.as_slice();
@@ -63,12 +66,12 @@ fn push_files(
 }
 
 // A package, as its files are named.
-fn stem_of(alloc: Global, found: &PackageAnswer) -> Result<Vec<u8>, AllocError>
-    ensures { IfOk result (λ stem. stem.items ≡ Spec.stem_of found.now) }
+fn stem_of(alloc: Global, answer: &PackageAnswer) -> Result<Vec<u8>, AllocError>
+    ensures { IfOk result (λ stem. stem.items ≡ Spec.stem_of answer.now) }
 {
-    let mut stem = found.name.as_bytes().to_vec(alloc)?;
+    let mut stem = answer.name.as_bytes().to_vec(alloc)?;
     stem.extend_from_slice(b"_")?;
-    stem.extend_from_slice(found.version.as_bytes())?;
+    stem.extend_from_slice(answer.version.as_bytes())?;
     Ok(stem)
 }
 
@@ -77,12 +80,19 @@ fn push_package(
     alloc: Global,
     files: &mut Vec<Placed>,
     folder: &str,
-    found: &PackageAnswer,
+    answer: &PackageAnswer,
 ) -> Result<(), AllocError>
-    ensures { OnOk result (files.new.items ≡ files.old.items ++ Spec.files_of_package folder.now found.now) }
+    ensures { OnOk result
+        (files.new.items ≡ files.old.items ++ Spec.files_of_package folder.now answer.now) }
 {
-    let stem = stem_of(alloc, found)?;
-    push_files(alloc, files, folder, stem.as_slice(), &found.installability)
+    let stem = stem_of(alloc, answer)?;
+    push_files(
+        alloc,
+        files,
+        folder,
+        stem.as_slice(),
+        &answer.installability,
+    )
 }
 
 // Puts the files of packages behind the others.
@@ -92,10 +102,12 @@ fn push_packages(
     folder: &str,
     answers: &[PackageAnswer],
 ) -> Result<(), AllocError>
-    ensures { OnOk result (files.new.items ≡ files.old.items ++ flat_map (Spec.files_of_package folder.now) answers.now) }
+    ensures { OnOk result
+        (files.new.items ≡ files.old.items
+        ++ flat_map (Spec.files_of_package folder.now) answers.now) }
 {
-    for found in answers {
-        push_package(alloc, files, folder, found)?;
+    for answer in answers {
+        push_package(alloc, files, folder, answer)?;
     }
     Ok(())
 }
@@ -141,7 +153,8 @@ fn put_file<H: Host>(
     file: &Placed,
 ) -> Result<Option<Outcome>, AllocError>
     ensures printed { IfOk result Spec.IsUnwritten }
-    ensures left { (at : Files) (was : Kept H.Journal) → H.files host.old ≡ Some at → H.kept host.old ≡ Some was
+    ensures left { (at : Files) (was : Kept H.Journal) → H.files host.old ≡ Some at
+        → H.kept host.old ≡ Some was
         → Spec.IsLeftOfFile file.now at was result (H.files host.new) (H.kept host.new) }
 {
     let put = host.put(alloc, file.path.as_slice(), file.text.as_slice());
@@ -155,7 +168,8 @@ pub(crate) fn put_files<H: Host>(
     files: &[Placed],
 ) -> Result<Option<Outcome>, AllocError>
     ensures printed { IfOk result Spec.IsUnwritten }
-    ensures left { (at : Files) (was : Kept H.Journal) → H.files host.old ≡ Some at → H.kept host.old ≡ Some was
+    ensures left { (at : Files) (was : Kept H.Journal) → H.files host.old ≡ Some at
+        → H.kept host.old ≡ Some was
         → Spec.IsLeftOfFiles files.now at was result (H.files host.new) (H.kept host.new) }
 {
     for file in files {

@@ -6,14 +6,14 @@ ghost use Rattle.cli.specs.Members.{AreMembersOf, AreOfRefutation};
 ghost use Rattle.serde_json.specs.View.{members_view};
 
 use crate::arguments::Arguments;
-use crate::asking::{is_document, seen_if, show, want};
+use crate::asking::{context_if, is_document, show, want};
 use crate::files::{HostShelf, Openings, ask_files};
 use crate::host::Host;
 use crate::members::members_of_refutation;
 use crate::told::tell_refusal;
 use cli_engine::{CheckRefutation, JudgedRefutation, Notes, Refusal};
 use command_line::Format;
-use documents::Members;
+use json_answers::Members;
 use outcomes::{Outcome, outcome_in, outcome_of_refutation};
 use std::alloc::{AllocError, Global};
 
@@ -41,7 +41,8 @@ pub(crate) fn outcome_of_lines<H: Host>(
     notes: &mut Notes,
 ) -> Result<Outcome, AllocError>
     ensures printed { (at : Files) → H.files host.old ≡ Some at → IfOk result (λ outcome.
-        IsOutcomeOfLines (texts_at at arguments.now) (judged_at at arguments.now.paths.judged.now) arguments.now.format outcome) }
+        IsOutcomeOfLines (texts_at at arguments.now)
+        (judged_at at arguments.now.paths.judged.now) arguments.now.format outcome) }
     ensures same { H.files host.new ≡ H.files host.old }
     ensures keeps { H.kept host.new ≡ H.kept host.old }
 {
@@ -52,11 +53,11 @@ pub(crate) fn outcome_of_lines<H: Host>(
         format,
         ..
     } = *arguments;
-    let mut seen = seen_if(alloc, explains);
+    let mut context = context_if(alloc, explains);
     let mut shelf = HostShelf {
         host,
         paths: &arguments.paths,
-        seen: &mut seen,
+        context: &mut context,
         openings: Openings::none(),
     };
     let question = CheckRefutation {

@@ -1,12 +1,13 @@
 //! The reply to a question of many: a line of JSON.
 ghost use Rattle.std.specs.Prelude.{◌≡◌, IfOk, List, codes, map, string_bytes};
-ghost use Rattle.cli.specs.Batch.{IsRefusedReply, IsReplyOf, IsReplyTo, IsReplyToLine, IsReplyWhere};
+ghost use Rattle.refusal_lines.specs.Lines as RefusalLines;
+ghost use Rattle.cli.specs.Batch.{IsRefusedIn, IsRefusedReply, IsReplyOf, IsReplyTo, IsReplyToLine, IsReplyWhere};
 ghost use Rattle.cli.specs.Members.{AreOfAnswered, AreOfCandidates, AreOfKept, AreOfPlan, AreOfRefutation};
 ghost use Rattle.cli_engine.specs.Answer.{IsSaidOfNames};
 ghost use Rattle.cli_engine.specs.Meaning.{IsSaid};
 ghost use Rattle.cli_engine.specs.Refuted.{IsSaidOf};
 ghost use Rattle.cli_engine.specs.Solution.{IsSaidOfRequest};
-ghost use Rattle.documents.specs.Document.{IsLineOf, object_with};
+ghost use Rattle.json_answers.specs.Document.{IsLineOf, object_with};
 ghost use Rattle.inputs.specs.ReadAs.{AreReadAs, IsListed, asking};
 ghost use Rattle.inputs.specs.Texts.{Texts};
 ghost use Rattle.keep_back.specs.KeptBack.{IsSaidOfKept};
@@ -21,15 +22,16 @@ use crate::members::{members_of_answered, members_of_plan, members_of_refutation
 use crate::reply_of_packages::reply_to_installable;
 use crate::told::{tell_undecided, tell_unfinished};
 use cli_engine::{
-    Answered, Candidate, Candidates, GivenPlan, GivenRefutation, JudgedPlan, JudgedRefutation,
-    Notes, Refusal, Settings, Solve,
+    Answered, CandidateAnswer, FindCandidates, GivenPlan, GivenRefutation, JudgedPlan,
+    JudgedRefutation, Notes, Refusal, Settings, Solve,
 };
 use command_line::Format;
-use documents::{Members, document, refused_document};
 use inputs::{Before, Inputs, MemoryShelf, OverRequest, requested_in};
+use json_answers::{Members, document, refused_document};
 use keep_back::{KeptBack, keep};
 use outcomes::{candidate_lines, refutation_line, solved_text, verdict_line};
 use questions::{Ask, Mistake, Posed, question_of};
+use refusal_lines::refusal_words;
 use serde_json::Value;
 use std::alloc::{AllocError, Global};
 use universe_build::Listing;
@@ -47,7 +49,7 @@ pub(crate) fn no_texts<'t>() -> MemoryShelf<'t, 't> {
 }
 
 // Notes that are wanted, since a document has them; what is told of inputs that change no answer is known before.
-fn wanted(alloc: Global, idle: &[u8]) -> Result<Notes, AllocError> {
+fn wanted_notes(alloc: Global, idle: &[u8]) -> Result<Notes, AllocError> {
     let mut notes = Notes::new(alloc);
     notes.wanted = true;
     notes.idle = Some(idle.to_vec(alloc)?);
@@ -79,7 +81,8 @@ pub(crate) fn reply_of(
     members: Members,
 ) -> Result<Vec<u8>, AllocError>
     ensures { IfOk result (λ reply. IsLineOf
-        (object_with text.now (put (codes "id") (view id) (members_view members.map.entries))) reply.items) }
+        (object_with text.now
+        (put (codes "id") (view id) (members_view members.map.entries))) reply.items) }
 {
     let mut all = members;
     all.put(alloc, "id", id)?;
@@ -88,7 +91,8 @@ pub(crate) fn reply_of(
 
 // The reply that refuses in these words.
 fn refused_reply(alloc: Global, id: Value, words: &[u8]) -> Result<Vec<u8>, AllocError>
-    ensures { IfOk result (λ reply. IsRefusedReply (view id) reply.items) }
+    ensures words { IfOk result (λ reply. IsRefusedIn (view id) words.now reply.items) }
+    ensures some { IfOk result (λ reply. IsRefusedReply (view id) reply.items) }
 {
     let mut members = Members::new(alloc);
     members.put(alloc, "id", id)?;
@@ -101,10 +105,11 @@ pub(crate) fn reply_of_refusal(
     id: Value,
     refusal: &Refusal,
 ) -> Result<Vec<u8>, AllocError>
-    ensures { IfOk result (λ reply. IsRefusedReply (view id) reply.items) }
+    ensures { IfOk result
+        (λ reply. IsRefusedIn (view id) (RefusalLines.refusal_words refusal.now) reply.items) }
 {
-    let words = refusal.to_string(alloc)?;
-    refused_reply(alloc, id, words.as_bytes())
+    let words = refusal_words(alloc, refusal)?;
+    refused_reply(alloc, id, words.as_slice())
 }
 
 // The reply to a line that is no question.
@@ -186,7 +191,8 @@ fn reply_of_judged(
     sentences: &[u8],
 ) -> Result<Vec<u8>, AllocError>
     ensures { IfOk result (λ reply.
-        IsReplyOf (view id) (Lines.verdict_line judged.now.verdict) (AreOfPlan judged.now) reply.items) }
+        IsReplyOf (view id) (Lines.verdict_line judged.now.verdict)
+        (AreOfPlan judged.now) reply.items) }
 {
     let text = verdict_line(alloc, &judged.verdict)?;
     let mut shelf = no_texts();
@@ -202,7 +208,8 @@ fn reply_of_lines(
     sentences: &[u8],
 ) -> Result<Vec<u8>, AllocError>
     ensures { IfOk result (λ reply.
-        IsReplyOf (view id) (Lines.refutation_line judged.verdict) (AreOfRefutation judged) reply.items) }
+        IsReplyOf (view id) (Lines.refutation_line judged.verdict)
+        (AreOfRefutation judged) reply.items) }
 {
     let text = refutation_line(alloc, &judged.verdict)?;
     let members = members_of_refutation(alloc, Format::Json, judged, sentences)?;
@@ -221,15 +228,17 @@ fn reply_to_solve<'i, 'a>(
     names_pairs: bool,
 ) -> Result<Vec<u8>, AllocError>
     requires { IsListed before.now listing.now }
-    ensures { (texts : Texts) → AreReadAs texts before.now → IfOk result (λ reply. IsReplyWhere (view id)
-        (IsSaidOfRequest (asking request.now texts) limit names_pairs) Lines.solved_text AreOfAnswered reply.items) }
+    ensures { (texts : Texts) → AreReadAs texts before.now
+        → IfOk result (λ reply. IsReplyWhere (view id)
+        (IsSaidOfRequest
+        (asking request.now texts) limit names_pairs) Lines.solved_text AreOfAnswered reply.items) }
 {
     let question = Solve {
         limit,
         names_pairs,
         has_document: true,
     };
-    let mut notes = wanted(alloc, idle)?;
+    let mut notes = wanted_notes(alloc, idle)?;
     match answer_over(alloc, &question, before, listing, request, &mut notes) {
         Ok(answered) => {
             tell_undecided(&answered.solved, &mut notes)?;
@@ -248,10 +257,12 @@ fn reply_to_keep_back(
     request: Vec<u8>,
     limit: u32,
 ) -> Result<Vec<u8>, AllocError>
-    ensures { (texts : Texts) → AreReadAs texts before.now → IfOk result (λ reply. IsReplyWhere (view id)
-        (IsSaidOfKept (asking request.items texts) limit) (λ kept. Lines.solved_text kept.answered) AreOfKept reply.items) }
+    ensures { (texts : Texts) → AreReadAs texts before.now
+        → IfOk result (λ reply. IsReplyWhere (view id)
+        (IsSaidOfKept (asking request.items texts) limit)
+        (λ kept. Lines.solved_text kept.answered) AreOfKept reply.items) }
 {
-    let mut notes = wanted(alloc, idle)?;
+    let mut notes = wanted_notes(alloc, idle)?;
     let mut shelf = no_texts();
     match keep(alloc, &mut shelf, before, request, limit, true, &mut notes) {
         Ok(kept) => {
@@ -273,11 +284,13 @@ fn reply_to_plan<'i, 'a>(
     plan: &[u8],
 ) -> Result<Vec<u8>, AllocError>
     requires { IsListed before.now listing.now }
-    ensures { (texts : Texts) → AreReadAs texts before.now → IfOk result (λ reply. IsReplyWhere (view id)
-        (IsSaid (asking request.now texts) (Some plan.now)) (λ judged. Lines.verdict_line judged.verdict) AreOfPlan reply.items) }
+    ensures { (texts : Texts) → AreReadAs texts before.now
+        → IfOk result (λ reply. IsReplyWhere (view id)
+        (IsSaid (asking request.now texts) (Some plan.now))
+        (λ judged. Lines.verdict_line judged.verdict) AreOfPlan reply.items) }
 {
     let question = GivenPlan { plan };
-    let mut notes = wanted(alloc, idle)?;
+    let mut notes = wanted_notes(alloc, idle)?;
     match answer_over(alloc, &question, before, listing, request, &mut notes) {
         Ok(judged) => {
             tell_unfinished(&judged, &mut notes)?;
@@ -298,12 +311,14 @@ fn reply_to_refutation<'i, 'a>(
     refutation: &[u8],
 ) -> Result<Vec<u8>, AllocError>
     requires { IsListed before.now listing.now }
-    ensures { (texts : Texts) → AreReadAs texts before.now → IfOk result (λ reply. IsReplyWhere (view id)
-        (IsSaidOf (asking request.now texts) (Some refutation.now)) (λ judged. Lines.refutation_line judged.verdict)
+    ensures { (texts : Texts) → AreReadAs texts before.now
+        → IfOk result (λ reply. IsReplyWhere (view id)
+        (IsSaidOf (asking request.now texts) (Some refutation.now))
+        (λ judged. Lines.refutation_line judged.verdict)
         AreOfRefutation reply.items) }
 {
     let question = GivenRefutation { refutation };
-    let mut notes = wanted(alloc, idle)?;
+    let mut notes = wanted_notes(alloc, idle)?;
     match answer_over(alloc, &question, before, listing, request, &mut notes) {
         Ok(judged) => reply_of_lines(alloc, id, judged, notes.text.as_slice()),
         Err(refusal) => reply_of_refusal(alloc, id, &refusal),
@@ -315,10 +330,12 @@ fn reply_of_names(
     alloc: Global,
     id: Value,
     names: &[&str],
-    candidates: &[Option<Candidate>],
+    candidates: &[Option<CandidateAnswer>],
     sentences: &[u8],
 ) -> Result<Vec<u8>, AllocError>
-    ensures { IfOk result (λ reply. IsReplyOf (view id) (Lines.candidate_lines (map (λ name. name.now) names.now) candidates.now)
+    ensures { IfOk result
+        (λ reply. IsReplyOf (view id)
+        (Lines.candidate_lines (map (λ name. name.now) names.now) candidates.now)
         (AreOfCandidates (map (λ name. name.now) names.now) candidates.now) reply.items) }
 {
     let text = candidate_lines(alloc, names, candidates)?;
@@ -334,15 +351,17 @@ fn reply_to_names(
     id: Value,
     names: &[&str],
 ) -> Result<Vec<u8>, AllocError>
-    ensures { (texts : Texts) → AreReadAs texts before.now → IfOk result (λ reply. IsReplyWhere (view id)
-        (IsSaidOfNames texts (map (λ name. name.now) names.now)) (Lines.candidate_lines (map (λ name. name.now) names.now))
+    ensures { (texts : Texts) → AreReadAs texts before.now
+        → IfOk result (λ reply. IsReplyWhere (view id)
+        (IsSaidOfNames texts (map (λ name. name.now) names.now))
+        (Lines.candidate_lines (map (λ name. name.now) names.now))
         (AreOfCandidates (map (λ name. name.now) names.now)) reply.items) }
 {
-    let question = Candidates {
+    let question = FindCandidates {
         names,
         tells_versions: false,
     };
-    let mut notes = wanted(alloc, idle)?;
+    let mut notes = wanted_notes(alloc, idle)?;
     let candidates = question.over(alloc, before, &mut notes)?;
     reply_of_names(
         alloc,
@@ -355,7 +374,8 @@ fn reply_to_names(
 
 /// The names as they are read of a command line. Memory alone can fail.
 pub(crate) fn words_of<'n>(alloc: Global, names: &'n [String]) -> Result<Vec<&'n str>, AllocError>
-    ensures { IfOk result (λ words. map (λ word. word.now) words.items ≡ map string_bytes names.entry.now) }
+    ensures { IfOk result
+        (λ words. map (λ word. word.now) words.items ≡ map string_bytes names.entry.now) }
 {
     let mut words = Vec::with_capacity(alloc, names.len())?;
     for name in names {
@@ -372,8 +392,10 @@ fn reply_to_strings(
     id: Value,
     names: &[String],
 ) -> Result<Vec<u8>, AllocError>
-    ensures { (texts : Texts) → AreReadAs texts before.now → IfOk result (λ reply. IsReplyWhere (view id)
-        (IsSaidOfNames texts (map string_bytes names.now)) (Lines.candidate_lines (map string_bytes names.now))
+    ensures { (texts : Texts) → AreReadAs texts before.now
+        → IfOk result (λ reply. IsReplyWhere (view id)
+        (IsSaidOfNames texts (map string_bytes names.now))
+        (Lines.candidate_lines (map string_bytes names.now))
         (AreOfCandidates (map string_bytes names.now)) reply.items) }
 {
     let words = words_of(alloc, names)?;
@@ -465,7 +487,8 @@ pub(crate) fn reply_to<'i, 'a>(
     line: &[u8],
 ) -> Result<Vec<u8>, AllocError>
     requires { IsListed before.now listing.now }
-    ensures { (texts : Texts) → AreReadAs texts before.now → IfOk result (λ reply. IsReplyToLine texts limit line.now reply.items) }
+    ensures { (texts : Texts) → AreReadAs texts before.now
+        → IfOk result (λ reply. IsReplyToLine texts limit line.now reply.items) }
 {
     match question_of(alloc, line)? {
         Ok(Posed { id, ask }) => reply_to_ask(alloc, before, listing, limit, idle, id, ask),

@@ -11,7 +11,7 @@ ghost use Rattle.serde_json.specs.View.{view};
 
 use crate::packages::question_of;
 use crate::reply::{no_texts, reply_of, reply_of_refusal, words_of};
-use command_line::{Shard, Survey};
+use command_line::{ShardNumber, Survey};
 use inputs::Before;
 use installable::Surveyed;
 use outcomes::{members_of_survey, survey_text};
@@ -21,7 +21,8 @@ use std::alloc::{AllocError, Global};
 // The reply of what is answered of packages.
 fn reply_of_surveyed(alloc: Global, id: Value, surveyed: &Surveyed) -> Result<Vec<u8>, AllocError>
     ensures { IfOk result (λ reply.
-        IsReplyOf (view id) (Lines.survey_text surveyed.now) (AreOfSurvey surveyed.now) reply.items) }
+        IsReplyOf (view id) (Lines.survey_text surveyed.now)
+        (AreOfSurvey surveyed.now) reply.items) }
 {
     let text = survey_text(alloc, surveyed)?;
     let members = members_of_survey(alloc, surveyed)?;
@@ -35,13 +36,15 @@ fn survey_of<'n>(
     without_essential: bool,
     limit: u32,
 ) -> Survey<'n>
-    ensures { survey_by result ≡ survey_of (map (λ name. name.now) names.entry.items) all_versions without_essential limit }
+    ensures { survey_by result
+        ≡ survey_of (map
+        (λ name. name.now) names.entry.items) all_versions without_essential limit }
 {
     Survey {
         names,
         asks_all_versions: all_versions,
         without_essential,
-        shard: Shard { number: 1, of: 1 },
+        shard: ShardNumber { number: 1, of: 1 },
         limit,
     }
 }
@@ -53,7 +56,8 @@ fn reply_to_survey(
     id: Value,
     survey: &Survey<'_>,
 ) -> Result<Vec<u8>, AllocError>
-    ensures { (texts : Texts) → AreReadAs texts before.now → IfOk result (λ reply. IsReplyWhere (view id)
+    ensures { (texts : Texts) → AreReadAs texts before.now
+        → IfOk result (λ reply. IsReplyWhere (view id)
         (IsSaidOfSurvey texts (survey_by survey.now)) Lines.survey_text AreOfSurvey reply.items) }
 {
     let question = question_of(survey, true);
@@ -76,8 +80,11 @@ pub(crate) fn reply_to_installable(
     own_limit: Option<u32>,
     limit: u32,
 ) -> Result<Vec<u8>, AllocError>
-    ensures { (texts : Texts) → AreReadAs texts before.now → IfOk result (λ reply. IsReplyWhere (view id)
-        (IsSaidOfSurvey texts (survey_of (map string_bytes names.now) all_versions without_essential (unwrap_or own_limit limit)))
+    ensures { (texts : Texts) → AreReadAs texts before.now
+        → IfOk result (λ reply. IsReplyWhere (view id)
+        (IsSaidOfSurvey texts
+        (survey_of (map string_bytes names.now) all_versions without_essential
+        (unwrap_or own_limit limit)))
         Lines.survey_text AreOfSurvey reply.items) }
 {
     let words = words_of(alloc, names)?;

@@ -6,15 +6,15 @@ ghost use Rattle.cli.specs.Members.{AreMembersOf, AreOfAnswered};
 ghost use Rattle.serde_json.specs.View.{members_view};
 
 use crate::arguments::Arguments;
-use crate::asking::{is_document, seen_if, show, want};
+use crate::asking::{context_if, is_document, show, want};
 use crate::files::{HostShelf, Openings, ask_files};
 use crate::host::Host;
 use crate::members::members_of_answered;
 use crate::told::{tell_refusal, tell_undecided};
 use cli_engine::{Answered, Notes, Refusal, Settings, Solve};
 use command_line::Format;
-use documents::Members;
 use inputs::Shelf;
+use json_answers::Members;
 use outcomes::{Outcome, outcome_in, outcome_of_solved};
 use std::alloc::{AllocError, Global};
 
@@ -55,7 +55,8 @@ pub(crate) fn outcome_of_request<H: Host>(
     notes: &mut Notes,
 ) -> Result<Outcome, AllocError>
     ensures printed { (at : Files) → H.files host.old ≡ Some at → IfOk result (λ outcome.
-        IsOutcomeOfRequest (texts_at at arguments.now) limit names_pairs arguments.now.format outcome) }
+        IsOutcomeOfRequest
+        (texts_at at arguments.now) limit names_pairs arguments.now.format outcome) }
     ensures same { H.files host.new ≡ H.files host.old }
     ensures keeps { H.kept host.new ≡ H.kept host.old }
 {
@@ -66,11 +67,11 @@ pub(crate) fn outcome_of_request<H: Host>(
         format,
         ..
     } = *arguments;
-    let mut seen = seen_if(alloc, explains);
+    let mut context = context_if(alloc, explains);
     let mut shelf = HostShelf {
         host,
         paths: &arguments.paths,
-        seen: &mut seen,
+        context: &mut context,
         openings: Openings::none(),
     };
     let question = Solve {

@@ -1,7 +1,7 @@
 //! Sentences on a refusal and on an answer that gives none of its own, for a person to read. Their words aren't promised.
 ghost use Rattle.std.specs.Prelude.{◌≡◌};
 
-use crate::files::{HostShelf, Paths, Seen, TextAt};
+use crate::files::{HostShelf, Paths, RefusalContext, TextAt};
 use crate::host::Host;
 use cli_engine::{Fault, Input, JudgedPlan, Notes, Refusal, Solved, Undecided};
 use index::{IndexFault, SourcesFault};
@@ -19,11 +19,11 @@ pub(crate) fn tell_refusal<T, H: Host>(
     shelf: &HostShelf<'_, '_, '_, H>,
     notes: &mut Notes,
 ) -> Result<(), AllocError> {
-    match (answer, &*shelf.seen) {
-        (Err(refusal), Some(seen)) => {
-            tell_place(alloc, refusal.place, shelf.paths, seen, notes)?;
-            tell_trouble(alloc, refusal, shelf, seen, notes)?;
-            tell_fault(alloc, &refusal.fault, shelf.paths, seen, notes)
+    match (answer, &*shelf.context) {
+        (Err(refusal), Some(context)) => {
+            tell_place(alloc, refusal.place, shelf.paths, context, notes)?;
+            tell_trouble(alloc, refusal, shelf, context, notes)?;
+            tell_fault(alloc, &refusal.fault, shelf.paths, context, notes)
         }
         _ => Ok(()),
     }
@@ -34,10 +34,10 @@ fn tell_trouble<H: Host>(
     alloc: Global,
     refusal: &Refusal,
     shelf: &HostShelf<'_, '_, '_, H>,
-    seen: &Seen,
+    context: &RefusalContext,
     notes: &mut Notes,
 ) -> Result<(), AllocError> {
-    match (&refusal.fault, path_at(refusal.place, shelf.paths, seen)) {
+    match (&refusal.fault, path_at(refusal.place, shelf.paths, context)) {
         (Fault::Read, Some(path)) => tell_words(alloc, shelf.host.trouble(path), notes),
         _ => Ok(()),
     }
@@ -52,7 +52,7 @@ fn tell_words(alloc: Global, words: &str, notes: &mut Notes) -> Result<(), Alloc
 }
 
 // The path of the text, if it is a file.
-fn path_at<'a>(place: Input, paths: &Paths<'a>, seen: &'a Seen) -> Option<&'a [u8]> {
+fn path_at<'a>(place: Input, paths: &Paths<'a>, context: &'a RefusalContext) -> Option<&'a [u8]> {
     match place {
         Input::Status => Some(paths.status.as_bytes()),
         Input::Sources => Some(paths.sources.as_bytes()),
@@ -62,7 +62,7 @@ fn path_at<'a>(place: Input, paths: &Paths<'a>, seen: &'a Seen) -> Option<&'a [u
             TextAt::Given(_) => None,
         },
         Input::Plan | Input::Refutation => Some(paths.judged.as_bytes()),
-        Input::Index(_) => Some(seen.index.as_slice()),
+        Input::Index(_) => Some(context.index.as_slice()),
         Input::Version(_) | Input::Memory => None,
     }
 }
@@ -72,7 +72,7 @@ fn tell_place(
     alloc: Global,
     place: Input,
     paths: &Paths<'_>,
-    seen: &Seen,
+    context: &RefusalContext,
     notes: &mut Notes,
 ) -> Result<(), AllocError> {
     match place {
@@ -87,7 +87,7 @@ fn tell_place(
         Input::Request => tell_request(alloc, paths.request, notes),
         Input::Plan => tell_text(alloc, "The plan", paths.judged, notes),
         Input::Refutation => tell_text(alloc, "The refutation", paths.judged, notes),
-        Input::Index(number) => tell_index(alloc, number, seen, notes),
+        Input::Index(number) => tell_index(alloc, number, context, notes),
         Input::Version(_) | Input::Memory => Ok(()),
     }
 }
@@ -118,11 +118,11 @@ fn tell_request(alloc: Global, place: TextAt<'_>, notes: &mut Notes) -> Result<(
 fn tell_index(
     alloc: Global,
     number: usize,
-    seen: &Seen,
+    context: &RefusalContext,
     notes: &mut Notes,
 ) -> Result<(), AllocError> {
     notes.add(format!(in alloc; "Index {number} is ")?.as_bytes())?;
-    tell_printed(alloc, seen.index.as_slice(), notes)?;
+    tell_printed(alloc, context.index.as_slice(), notes)?;
     notes.add(b".\n")
 }
 
@@ -131,21 +131,21 @@ fn tell_fault(
     alloc: Global,
     fault: &Fault,
     paths: &Paths<'_>,
-    seen: &Seen,
+    context: &RefusalContext,
     notes: &mut Notes,
 ) -> Result<(), AllocError> {
     match fault {
         Fault::Request(RequestFault::BadRequest(line)) => {
-            tell_line(alloc, *line, text_of(paths, seen), notes)?;
+            tell_line(alloc, *line, text_of(paths, context), notes)?;
             notes.add(GOALS)
         }
         Fault::UnknownName(line) => {
-            tell_line(alloc, *line, text_of(paths, seen), notes)?;
+            tell_line(alloc, *line, text_of(paths, context), notes)?;
             notes.add(UNKNOWN_NAME)
         }
         Fault::Status(StatusRefusal::ForeignArchitecture(_)) => notes.add(ONE_ARCHITECTURE),
         Fault::Sources(SourcesFault::MissingFile(_)) => notes.add(OWN_SOURCES),
-        Fault::Index(IndexFault::Stanza(error)) => tell_compressed(*error, seen, notes),
+        Fault::Index(IndexFault::Stanza(error)) => tell_compressed(*error, context, notes),
         _ => Ok(()),
     }
 }
@@ -168,9 +168,9 @@ const OWN_SOURCES: &[u8] =
     b"Each stanza of the sources has a field File, the path of an uncompressed Packages file. apt's own sources are other files.\n";
 
 // The text of the request, as far as it was read.
-fn text_of<'a>(paths: &Paths<'a>, seen: &'a Seen) -> &'a [u8] {
+fn text_of<'a>(paths: &Paths<'a>, context: &'a RefusalContext) -> &'a [u8] {
     match paths.request {
-        TextAt::File(_) => seen.request.as_slice(),
+        TextAt::File(_) => context.request.as_slice(),
         TextAt::Given(text) => text,
     }
 }
@@ -217,10 +217,14 @@ fn printed_byte(byte: u8) -> u8 {
 
 // Tells that an index is to be given uncompressed, where it's no control text from its first line on and is named as a compressed
 // file.
-fn tell_compressed(error: StanzaError, seen: &Seen, notes: &mut Notes) -> Result<(), AllocError> {
+fn tell_compressed(
+    error: StanzaError,
+    context: &RefusalContext,
+    notes: &mut Notes,
+) -> Result<(), AllocError> {
     match error {
         StanzaError::BadLine(1) | StanzaError::BadFieldName(1)
-            if is_compressed_name(seen.index.as_slice()) => {
+            if is_compressed_name(context.index.as_slice()) => {
             notes.add(b"It looks compressed: give it uncompressed.\n")
         }
         _ => Ok(()),

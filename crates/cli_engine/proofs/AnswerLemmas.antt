@@ -18,20 +18,20 @@ use Rattle.cli_engine.specs.Meaning.{GoodPlanIsAnswered, HasOneAnswer, IsReadAs,
 use mathlib.Core.Logic.{inl, inr}
 
 -- a verdict over what the texts and the plan are read as is a verdict over what they are read as again
-moved : (texts : Texts) (plan : Found) (u other : Universe) (start begin : List Record) (steps further : List Step) (found : Verdict)
-    → IsReadAs texts plan u start steps → IsReadAs texts plan other begin further → IsVerdict u start steps found
-    → IsVerdict other begin further found
-moved texts plan u other start begin steps further found is also holds =
+moved : (texts : Texts) (plan : Found) (u other : Universe) (start begin : List Record) (steps further : List Step) (verdict : Verdict)
+    → IsReadAs texts plan u start steps → IsReadAs texts plan other begin further → IsVerdict u start steps verdict
+    → IsVerdict other begin further verdict
+moved texts plan u other start begin steps further verdict is also holds =
     let one = one_meaning texts u other start begin is.denoted also.denoted in
     let same : steps ≡ further = ok-same steps further (plan_of plan) is.read also.read in
-    subst (λ (ss : List Step). IsVerdict other begin ss found) same
-    (subst (λ (db : List Record). IsVerdict other db steps found) one.1
-    (subst (λ (v : Universe). IsVerdict v start steps found) one.0 holds))
+    subst (λ (ss : List Step). IsVerdict other begin ss verdict) same
+    (subst (λ (db : List Record). IsVerdict other db steps verdict) one.1
+    (subst (λ (v : Universe). IsVerdict v start steps verdict) one.0 holds))
 
 -- what an answer is about
-abbrev read_by : (texts : Texts) (plan : Found) (found : Verdict) (answer : IsAnswer texts plan found)
+abbrev read_by : (texts : Texts) (plan : Found) (verdict : Verdict) (answer : IsAnswer texts plan verdict)
     → IsReadAs texts plan answer.universe answer.start answer.steps
-read_by texts plan found answer = record { denoted = answer.denoted; read = answer.read }
+read_by texts plan verdict answer = record { denoted = answer.denoted; read = answer.read }
 
 pub one_answer : HasOneAnswer
 one_answer texts plan first second answer other = one_verdict other.universe other.start other.steps first second

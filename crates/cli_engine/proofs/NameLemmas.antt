@@ -19,12 +19,12 @@ zip_more R (a ∷ xs) (b ∷ ys) x y all here = (all.0, zip_more R xs ys x y all
 
 -- candidates by what the texts are read as are an answer
 pub answered_by : (texts : Texts) (start : List Record) (indices : List Index) (prefs : Preferences) (names : List (List ℕ))
-    (found : List (Option Offer)) → AreRead texts start indices prefs → AreCandidatesOf start indices prefs names found
-    → AreCandidateAnswers texts names found
+    (candidates : List (Option Offer)) → AreRead texts start indices prefs → AreCandidatesOf start indices prefs names candidates
+    → AreCandidateAnswers texts names candidates
 answered_by texts start indices prefs [] [] read are = tt
-answered_by texts start indices prefs [] (candidate ∷ found) read are = absurd are
+answered_by texts start indices prefs [] (candidate ∷ candidates) read are = absurd are
 answered_by texts start indices prefs (name ∷ names) [] read are = absurd are
-answered_by texts start indices prefs (name ∷ names) (candidate ∷ found) read are = (
+answered_by texts start indices prefs (name ∷ names) (candidate ∷ candidates) read are = (
   record {
     start = start;
     indices = indices;
@@ -32,5 +32,5 @@ answered_by texts start indices prefs (name ∷ names) (candidate ∷ found) rea
     read = read;
     holds = are.0;
   },
-  answered_by texts start indices prefs names found read are.1,
+  answered_by texts start indices prefs names candidates read are.1,
 )

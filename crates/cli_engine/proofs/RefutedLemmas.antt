@@ -73,5 +73,5 @@ accepted-is-answered texts refutation u start written (Err refused) is read acce
     inr (ap Err (wanting texts refutation u start written refused is read first))
 
 pub meaning-is-answered : MeaningIsAnswered
-meaning-is-answered texts u start limit names_pairs (Ok found) is answer = inl (found, refl)
+meaning-is-answered texts u start limit names_pairs (Ok answered) is answer = inl (answered, refl)
 meaning-is-answered texts u start limit names_pairs (Err refused) is first = inr (ap Err (meaning_is_not_refused texts u start refused is first))

@@ -24,7 +24,7 @@ use Rattle.rules.specs.declared.step.Verdict.{Verdict}
 
 -- what a plan is read as
 abbrev pub plan_of : Found → Result (List Step) Fault
-plan_of found = read_found (λ text. with_fault fault.Plan (read_plan text)) found
+plan_of plan = read_found (λ text. with_fault fault.Plan (read_plan text)) plan
 
 -- the texts have a meaning, and the plan is refused so
 pub record IsPlanRefusal (texts : Texts) (plan : Found) (refused : Refusal) : Type 0 where
@@ -48,21 +48,21 @@ pub record IsAnswer (texts : Texts) (plan : Found) (verdict : Verdict) : Type 0 
   pub holds : IsVerdict universe start steps verdict
 
 -- it is the candidate of the name, if the name has one, by what the texts before the request are read as, whatever is asked for
-pub record IsCandidateAnswer (texts : Texts) (name : List ℕ) (found : Option Offer) : Type 0 where
+pub record IsCandidateAnswer (texts : Texts) (name : List ℕ) (candidate : Option Offer) : Type 0 where
   pub start : List Record
   pub indices : List Index
   pub prefs : Preferences
   pub read : AreRead texts start indices prefs
-  pub holds : (request : Request) → IsCandidateOf (inputs_of start indices prefs request) name found
+  pub holds : (request : Request) → IsCandidateOf (inputs_of start indices prefs request) name candidate
 
 -- they are the candidates of the names, each in the place of its name, whatever is asked for
 abbrev pub AreCandidatesOf : List Record → List Index → Preferences → List (List ℕ) → List (Option Offer) → Type 0
-AreCandidatesOf start indices prefs names found =
-    AllZip (λ name candidate. (request : Request) → IsCandidateOf (inputs_of start indices prefs request) name candidate) names found
+AreCandidatesOf start indices prefs names candidates =
+    AllZip (λ name candidate. (request : Request) → IsCandidateOf (inputs_of start indices prefs request) name candidate) names candidates
 
 -- they are the candidates of the names, each in the place of its name, by what the texts before the request are read as
 abbrev pub AreCandidateAnswers : Texts → List (List ℕ) → List (Option Offer) → Type 0
-AreCandidateAnswers texts names found = AllZip (IsCandidateAnswer texts) names found
+AreCandidateAnswers texts names candidates = AllZip (IsCandidateAnswer texts) names candidates
 
 -- what is said of the candidates of names: they, or the first refusal of the texts before the request
 abbrev pub IsSaidOfNames : Texts → List (List ℕ) → Result (List (Option Offer)) Refusal → Type 0

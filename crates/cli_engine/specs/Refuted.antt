@@ -21,7 +21,7 @@ use Rattle.cli_engine.specs.declared.check_refutation.JudgedRefutation.{JudgedRe
 
 -- what a refutation is read as, whose pairs have numbers or are named
 abbrev pub refutation_of : Found → Result WrittenRefutation Fault
-refutation_of found = read_found (λ text. with_fault fault.Refutation (read_written text)) found
+refutation_of refutation = read_found (λ text. with_fault fault.Refutation (read_written text)) refutation
 
 -- the texts have a meaning, and the refutation is refused so
 pub record IsRefutationRefusal (texts : Texts) (refutation : Found) (refused : Refusal) : Type 0 where
@@ -36,13 +36,13 @@ abbrev pub IsFirstRefutationRefusal : Texts → Found → Refusal → Type 0
 IsFirstRefutationRefusal texts refutation refused = IsRefusal texts refused ⊎ IsRefutationRefusal texts refutation refused
 
 -- the verdict is true of the refutation that the text is read as, over the universe that the texts denote
-pub record IsRefutationAnswer (texts : Texts) (refutation : Found) (found : Verdict) : Type 0 where
+pub record IsRefutationAnswer (texts : Texts) (refutation : Found) (verdict : Verdict) : Type 0 where
   pub universe : Universe
   pub start : List Record
   pub written : WrittenRefutation
   pub denoted : Denotes texts universe start
   pub read : refutation_of refutation ≡ Ok written
-  pub holds : IsWrittenVerdict universe written found
+  pub holds : IsWrittenVerdict universe written verdict
 
 -- no set of admitted pairs is acceptable, over the universe that the texts denote, which is the only one
 pub record AreRefuted (texts : Texts) : Type 0 where

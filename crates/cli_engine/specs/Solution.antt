@@ -1,7 +1,7 @@
 -- What is answered to a request by the texts, and which refusal comes first.
 use Rattle.std.specs.Prelude.{◌≡◌, ◌⊎◌, ℕ, Bool, true, false, List, Option, Some, None, Result, Ok, Err, ⊤}
-use Rattle.documents.specs.Lines.{AreWithLines}
-use Rattle.documents.specs.declared.members.Members.{Members as Made}
+use Rattle.json_answers.specs.Lines.{AreWithLines}
+use Rattle.json_answers.specs.declared.members.Members.{Members as Made}
 use Rattle.inputs.specs.Meaning.{Denotes, DenotesAsked}
 use Rattle.inputs.specs.Reading.{out_of_memory}
 use Rattle.inputs.specs.Refused.{IsRefusal}
@@ -21,7 +21,7 @@ use Rattle.cli_engine.specs.declared.solve.Answered.{Answered}
 
 -- the text of a refutation with the pairs named, where that is asked for and the answer is one
 abbrev pub naming_for : Bool → List Pair → Solved → Option (List ℕ)
-naming_for false pairs found = None
+naming_for false pairs answer = None
 naming_for true pairs (solved.Refuted lines) = Some (naming_text pairs lines)
 naming_for true pairs (solved.Plan steps) = None
 naming_for true pairs (solved.Undecided why) = None
@@ -39,13 +39,13 @@ HasSolvedLines u (solved.Undecided why) made = made ≡ None
 
 -- the answer is true of the universe and the start that the texts denote, by this limit of the search, says whether the request asks
 -- for all versions, has the text of a refutation with its pairs named where that is asked for, and its lines where a document has them
-pub record IsSolution (texts : Texts) (limit : ℕ) (names_pairs : Bool) (found : Answered) : Type 0 where
+pub record IsSolution (texts : Texts) (limit : ℕ) (names_pairs : Bool) (answered : Answered) : Type 0 where
   pub universe : Universe
   pub start : List Record
-  pub denoted : DenotesAsked texts universe start found.asks_all_versions
-  pub holds : IsSolved universe start limit found.solved
-  pub naming : found.naming ≡ naming_for names_pairs universe.pairs found.solved
-  pub lines : HasSolvedLines universe found.solved found.members
+  pub denoted : DenotesAsked texts universe start answered.asks_all_versions
+  pub holds : IsSolved universe start limit answered.solved
+  pub naming : answered.naming ≡ naming_for names_pairs universe.pairs answered.solved
+  pub lines : HasSolvedLines universe answered.solved answered.members
 
 -- what texts denote can be solved
 abbrev pub MeaningIsSolvable : Type 0
@@ -53,10 +53,10 @@ MeaningIsSolvable = (texts : Texts) (u : Universe) (start : List Record) → Den
 
 -- what is said of a request: its answer, or the first refusal
 abbrev pub IsSaidOfRequest : Texts → ℕ → Bool → Result Answered Refusal → Type 0
-IsSaidOfRequest texts limit names_pairs (Ok found) = IsSolution texts limit names_pairs found
+IsSaidOfRequest texts limit names_pairs (Ok answered) = IsSolution texts limit names_pairs answered
 IsSaidOfRequest texts limit names_pairs (Err refused) = IsRefusal texts refused
 
 -- a request of texts that have a meaning is answered, or memory was wanting
 abbrev pub MeaningIsAnswered : Type 0
 MeaningIsAnswered = (texts : Texts) (u : Universe) (start : List Record) (limit : ℕ) (names_pairs : Bool) (said : Result Answered Refusal)
-    → Denotes texts u start → IsSaidOfRequest texts limit names_pairs said → ((found : Answered) × (said ≡ Ok found)) ⊎ (said ≡ Err out_of_memory)
+    → Denotes texts u start → IsSaidOfRequest texts limit names_pairs said → ((answered : Answered) × (said ≡ Ok answered)) ⊎ (said ≡ Err out_of_memory)

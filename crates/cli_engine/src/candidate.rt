@@ -8,7 +8,7 @@ ghost use Rattle.rules.specs.Available.{Request};
 ghost use Rattle.cli_engine.specs.Answer.{AreCandidateAnswers, AreCandidatesOf, IsSaidOfNames};
 
 use crate::notes::Notes;
-use crate::offered::Candidate;
+use crate::offered::CandidateAnswer;
 use crate::requested::tell_idle_inputs;
 use crate::versions::tell_candidates;
 use candidates::candidate;
@@ -20,7 +20,7 @@ use std::alloc::{AllocError, Global};
 /// before anything is asked for (apt_preferences(5)). The request isn't read: the first refusal is one in the order status, sources,
 /// indices, preferences. Each name costs what `candidates::candidate` costs. Sentences on the answer are told, where they are wanted.
 #[derive(Clone, Copy)]
-pub struct Candidates<'n> {
+pub struct FindCandidates<'n> {
     /// The names.
     pub names: &'n [&'n str],
     /// Whether the versions of each name are told too, where sentences are wanted.
@@ -32,9 +32,10 @@ fn candidate_over(
     alloc: Global,
     before: &Before<'_, '_, '_, '_, '_, '_, '_, '_>,
     name: &[u8],
-) -> Result<Option<Candidate>, AllocError>
+) -> Result<Option<CandidateAnswer>, AllocError>
     ensures { (request : Request) → IfOk result (λ candidate. IsCandidateOf
-        (inputs_of (start_of before.now) (indices_of before.now.indices.now) before.now.prefs.now request) name.now candidate) }
+        (inputs_of (start_of before.now)
+        (indices_of before.now.indices.now) before.now.prefs.now request) name.now candidate) }
 {
     let records = before.status_file.records(alloc)?;
     match candidate(
@@ -45,7 +46,7 @@ fn candidate_over(
         name,
     )? {
         None => Ok(None),
-        Some(offer) => Ok(Some(Candidate::copied_from(alloc, &offer)?)),
+        Some(offer) => Ok(Some(CandidateAnswer::copied_from(alloc, &offer)?)),
     }
 }
 
@@ -54,8 +55,11 @@ fn candidates_over(
     alloc: Global,
     before: &Before<'_, '_, '_, '_, '_, '_, '_, '_>,
     names: &[&str],
-) -> Result<Vec<Option<Candidate>>, AllocError>
-    ensures { IfOk result (λ candidates. AreCandidatesOf (start_of before.now) (indices_of before.now.indices.now) before.now.prefs.now
+) -> Result<Vec<Option<CandidateAnswer>>, AllocError>
+    ensures { IfOk result
+        (λ candidates.
+        AreCandidatesOf (start_of before.now)
+        (indices_of before.now.indices.now) before.now.prefs.now
         (map (λ name. name.now) names.now) candidates.items) }
 {
     let mut candidates = Vec::new(alloc);
@@ -66,7 +70,7 @@ fn candidates_over(
     Ok(candidates)
 }
 
-impl<'n> Candidates<'n> {
+impl<'n> FindCandidates<'n> {
     /// Answers it over what the texts before a request are read as. Sentences on the answer are told, where they are wanted. Memory alone
     /// can fail.
     pub fn over(
@@ -74,7 +78,7 @@ impl<'n> Candidates<'n> {
         alloc: Global,
         before: &Before<'_, '_, '_, '_, '_, '_, '_, '_>,
         notes: &mut Notes,
-    ) -> Result<Items<Option<Candidate>>, AllocError>
+    ) -> Result<Items<Option<CandidateAnswer>>, AllocError>
         ensures said { (texts : Texts) → AreReadAs texts before.now
             → IfOk result (AreCandidateAnswers texts (map (λ name. name.now) self.now.names.now)) }
         ensures unasked { notes.old.wanted ≡ false → notes.new ≡ notes.old }
@@ -93,8 +97,8 @@ impl<'n> Candidates<'n> {
     }
 }
 
-impl<'n> Question for Candidates<'n> {
-    type Answer = Items<Option<Candidate>>;
+impl<'n> Question for FindCandidates<'n> {
+    type Answer = Items<Option<CandidateAnswer>>;
 
     type Beside = Notes;
 
@@ -108,7 +112,7 @@ impl<'n> Question for Candidates<'n> {
         _shelf: &mut S,
         before: &Before<'_, '_, '_, '_, '_, '_, '_, '_>,
         notes: &mut Notes,
-    ) -> Result<Items<Option<Candidate>>, Refusal> {
+    ) -> Result<Items<Option<CandidateAnswer>>, Refusal> {
         let candidates = self.over(alloc, before, notes)?;
         Ok(candidates)
     }

@@ -40,7 +40,8 @@ pub fn judge<'a>(
     steps: &[Step],
 ) -> Result<Verdict, AllocError>
     requires { IsBuiltOn (slot_records status_file.now.slots) universe.now }
-    ensures { IfOk result (λ verdict. IsVerdict universe.now (slot_records status_file.now.slots) steps.now verdict) }
+    ensures { IfOk result
+        (λ verdict. IsVerdict universe.now (slot_records status_file.now.slots) steps.now verdict) }
 {
     let records = status_file.records(alloc)?;
     let packages = parse_packages(alloc, records.as_slice())?;

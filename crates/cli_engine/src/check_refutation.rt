@@ -15,10 +15,10 @@ use crate::lines::members_of;
 use crate::notes::Notes;
 use crate::refuted::tell_accepted;
 use crate::requested::read_asked;
-use documents::Members;
 use inputs::{
-    Before, Fault, Input, Part, Question, Refusal, Requested, Shelf, read_part, refused_at,
+    Before, Fault, Input, Question, Refusal, Requested, Shelf, WholeText, read_part, refused_at,
 };
+use json_answers::Members;
 use refutation_text::RefutationError;
 use refutecheck::Verdict;
 use std::alloc::Global;
@@ -71,12 +71,15 @@ pub(crate) fn written_of(alloc: Global, text: &[u8]) -> Result<WrittenRefutation
 
 // The refutation of the shelf.
 fn read_judged<S: Shelf>(alloc: Global, shelf: &mut S) -> Result<WrittenRefutation, Refusal>
-    ensures ok { (at : Shelved) → S.found shelf.old ≡ Some at → IfOk result (λ written. refutation_of at.judged ≡ Ok written) }
-    ensures refused { (at : Shelved) (texts : Texts) (u : UniverseOf) (start : List Record) → S.found shelf.old ≡ Some at
-        → Denotes texts u start → IfErr result (λ refused. IsFirstRefutationRefusal texts at.judged refused) }
+    ensures ok { (at : Shelved) → S.known_texts shelf.old ≡ Some at
+        → IfOk result (λ written. refutation_of at.judged ≡ Ok written) }
+    ensures refused { (at : Shelved) (texts : Texts) (u : UniverseOf) (start : List Record)
+        → S.known_texts shelf.old ≡ Some at
+        → Denotes texts u start
+        → IfErr result (λ refused. IsFirstRefutationRefusal texts at.judged refused) }
     ensures read { IsReadBy S.Shelf shelf.old result shelf.new }
 {
-    let text = read_part(alloc, shelf, Part::Judged, Input::Refutation)?;
+    let text = read_part(alloc, shelf, WholeText::Judged, Input::Refutation)?;
     match refutation_in(alloc, text.as_slice()) {
         Ok(written) => Ok(written),
         Err(fault) => Err(refused_at(Input::Refutation, fault)),

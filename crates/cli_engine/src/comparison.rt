@@ -43,7 +43,8 @@ impl Comparison {
 
 // The version of this number.
 fn version_of(number: usize, text: &[u8]) -> Result<Version<'_>, Refusal>
-    ensures { MatchResult result (λ version. (version_refusal number text.now ≡ None) × (version ≡ text.now))
+    ensures { MatchResult result
+        (λ version. (version_refusal number text.now ≡ None) × (version ≡ text.now))
         (λ refused. version_refusal number text.now ≡ Some refused) }
 {
     match Version::parse(text) {

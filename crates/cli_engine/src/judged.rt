@@ -22,7 +22,8 @@ fn sentences_on<'a>(
     verdict: &Verdict,
 ) -> Result<Vec<u8>, AllocError>
     requires built { IsBuiltOn (slot_records status_file.now.slots) universe.now }
-    requires verdict { IsVerdict universe.now (slot_records status_file.now.slots) steps.now verdict.now }
+    requires verdict { IsVerdict universe.now
+        (slot_records status_file.now.slots) steps.now verdict.now }
 {
     let records = status_file.records(alloc)?;
     let packages = parse_packages(alloc, records.as_slice())?;
@@ -42,7 +43,8 @@ pub(crate) fn tell_verdict<'a>(
     notes: &mut Notes,
 ) -> Result<(), AllocError>
     requires built { IsBuiltOn (slot_records status_file.now.slots) universe.now }
-    requires verdict { IsVerdict universe.now (slot_records status_file.now.slots) steps.now verdict.now }
+    requires verdict { IsVerdict universe.now
+        (slot_records status_file.now.slots) steps.now verdict.now }
     ensures unasked { notes.old.wanted ≡ false → notes.new ≡ notes.old }
 {
     if !notes.wanted {
@@ -62,7 +64,8 @@ pub(crate) fn tell_judged<'a>(
     notes: &mut Notes,
 ) -> Result<(), AllocError>
     requires built { IsBuiltOn (slot_records before.now.status_file.now.slots) universe.now }
-    requires verdict { IsVerdict universe.now (slot_records before.now.status_file.now.slots) steps.now verdict.now }
+    requires verdict { IsVerdict universe.now
+        (slot_records before.now.status_file.now.slots) steps.now verdict.now }
     ensures unasked { notes.old.wanted ≡ false → notes.new ≡ notes.old }
 {
     tell_verdict(alloc, before.status_file, universe, steps, verdict, notes)?;

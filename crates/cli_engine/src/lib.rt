@@ -1,6 +1,6 @@
 //! The questions over texts: a plan that is judged, a refutation that is judged, a request that is solved, and the candidates of names.
 //! What the texts are read as, and how a question is asked of them, is `inputs`; it stands on the judges `plancheck` and
-//! `refutecheck`, and for `Solve` alone on `solver`. The main types are `CheckPlan`, `CheckRefutation`, `Solve` and `Candidates`, which
+//! `refutecheck`, and for `Solve` alone on `solver`. The main types are `CheckPlan`, `CheckRefutation`, `Solve` and `FindCandidates`, which
 //! `inputs::ask` asks of a shelf.
 #![tactic(auto)]
 
@@ -20,7 +20,7 @@ mod requested;
 mod solve;
 mod versions;
 
-pub use candidate::Candidates;
+pub use candidate::FindCandidates;
 pub use check::{CheckPlan, JudgedPlan, judge};
 pub use check_refutation::{CheckRefutation, JudgedRefutation};
 pub use comparison::{Comparison, compare};
@@ -31,9 +31,9 @@ pub use laws::{
     a_plan_has_one_answer, a_refutation_has_one_answer,
     an_accepted_refutation_is_answered_with_yes, yes_keeps_its_promise, yes_refutes,
 };
-pub use lines::answered;
+pub use lines::answer_of_solved;
 pub use notes::Notes;
-pub use offered::Candidate;
+pub use offered::CandidateAnswer;
 pub use plan::read_steps;
 pub use refutecheck::Verdict as RefutationVerdict;
 pub use refuted::tell_solved;

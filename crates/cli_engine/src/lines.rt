@@ -3,7 +3,7 @@ ghost use Rattle.std.specs.Prelude.{◌≡◌, IfOk, is_some};
 ghost use Rattle.cli_engine.specs.Solution.{HasLines, HasSolvedLines, naming_for};
 
 use crate::solve::Answered;
-use documents::{Members, put_lines};
+use json_answers::{Members, put_lines};
 use refutation::Refutation;
 use rules::Items;
 use solver::Solved;
@@ -11,7 +11,7 @@ use std::alloc::{AllocError, Global};
 use universe::Universe;
 use written_refutation::write_naming;
 
-/// What a document has of the lines of a refutation, where there is to be one. Costs what `documents::put_lines` costs. Memory alone
+/// What a document has of the lines of a refutation, where there is to be one. Costs what `json_answers::put_lines` costs. Memory alone
 /// can fail.
 pub(crate) fn members_of(
     alloc: Global,
@@ -37,7 +37,8 @@ fn naming_of(
     solved: &Solved,
     names_pairs: bool,
 ) -> Result<Option<Items<u8>>, AllocError>
-    ensures { IfOk result (λ naming. naming ≡ naming_for names_pairs universe.now.pairs solved.now) }
+    ensures { IfOk result
+        (λ naming. naming ≡ naming_for names_pairs universe.now.pairs solved.now) }
 {
     if !names_pairs {
         return Ok(None);
@@ -70,7 +71,7 @@ fn solved_members(
 
 /// What is answered where the request of the universe is solved so, with the text of a refutation whose pairs are named, where that is
 /// asked for, and what a document has of its lines, where there is to be one. Memory alone can fail.
-pub fn answered(
+pub fn answer_of_solved(
     alloc: Global,
     universe: &Universe<'_, '_>,
     solved: Solved,
@@ -80,8 +81,10 @@ pub fn answered(
 ) -> Result<Answered, AllocError>
     ensures solved { IfOk result (λ answered. answered.solved ≡ solved) }
     ensures asks { IfOk result (λ answered. answered.asks_all_versions ≡ asks_all_versions) }
-    ensures naming { IfOk result (λ answered. answered.naming ≡ naming_for names_pairs universe.now.pairs solved) }
-    ensures lines { IfOk result (λ answered. HasSolvedLines universe.now answered.solved answered.members) }
+    ensures naming { IfOk result
+        (λ answered. answered.naming ≡ naming_for names_pairs universe.now.pairs solved) }
+    ensures lines { IfOk result
+        (λ answered. HasSolvedLines universe.now answered.solved answered.members) }
 {
     let naming = naming_of(alloc, universe, &solved, names_pairs)?;
     let members = solved_members(alloc, universe, &solved, has_document)?;

@@ -8,13 +8,13 @@ use std::marker::Model;
 
 /// The candidate of a name: a version, and its priority (apt_preferences(5)). It owns its texts.
 #[derive(Drop)]
-pub struct Candidate {
+pub struct CandidateAnswer {
     name: Text,
     version: Text,
     priority: i32,
 }
 
-impl Model for Candidate {
+impl Model for CandidateAnswer {
     ghost use Rattle.candidates.specs.Offer.{Offer as OfferValue};
 
     ghost Value = { OfferValue };
@@ -22,12 +22,12 @@ impl Model for Candidate {
     ghost view = { λ c. record { name = c.name; version = c.version; priority = c.priority } };
 }
 
-impl Candidate {
+impl CandidateAnswer {
     /// A copy of what is offered. Memory alone can fail.
-    pub fn copied_from(alloc: Global, offer: &Offer<'_>) -> Result<Candidate, AllocError>
+    pub fn copied_from(alloc: Global, offer: &Offer<'_>) -> Result<CandidateAnswer, AllocError>
         ensures { IfOk result (λ candidate. candidate ≡ offer.now) }
     {
-        Ok(Candidate {
+        Ok(CandidateAnswer {
             name: Text::copied_from(alloc, offer.name())?,
             version: Text::copied_from(alloc, offer.version().text())?,
             priority: offer.priority(),

@@ -9,7 +9,7 @@ ghost use Rattle.rules.specs.Database.{Record};
 ghost use Rattle.rules.specs.Universe.{Universe as UniverseOf};
 ghost use Rattle.cli_engine.specs.Answer.{IsFirstRefusal, plan_of};
 
-use inputs::{Fault, Input, Part, Refusal, Shelf, read_part, refused_at};
+use inputs::{Fault, Input, Refusal, Shelf, WholeText, read_part, refused_at};
 use plantext::{PlanError, read_plan};
 use rules::Step;
 use std::alloc::Global;
@@ -42,12 +42,14 @@ pub(crate) fn steps_of(alloc: Global, text: &[u8]) -> Result<Vec<Step>, Refusal>
 
 /// The steps of the plan.
 pub fn read_steps<S: Shelf>(alloc: Global, shelf: &mut S) -> Result<Vec<Step>, Refusal>
-    ensures ok { (at : Shelved) → S.found shelf.old ≡ Some at → IfOk result (λ steps. plan_of at.judged ≡ Ok steps.items) }
-    ensures refused { (at : Shelved) (texts : Texts) (u : UniverseOf) (start : List Record) → S.found shelf.old ≡ Some at
+    ensures ok { (at : Shelved) → S.known_texts shelf.old ≡ Some at
+        → IfOk result (λ steps. plan_of at.judged ≡ Ok steps.items) }
+    ensures refused { (at : Shelved) (texts : Texts) (u : UniverseOf) (start : List Record)
+        → S.known_texts shelf.old ≡ Some at
         → Denotes texts u start → IfErr result (λ refused. IsFirstRefusal texts at.judged refused) }
     ensures read { IsReadBy S.Shelf shelf.old result shelf.new }
 {
-    let text = read_part(alloc, shelf, Part::Judged, Input::Plan)?;
+    let text = read_part(alloc, shelf, WholeText::Judged, Input::Plan)?;
     match steps_in(alloc, text.as_slice()) {
         Ok(steps) => Ok(steps),
         Err(fault) => Err(refused_at(Input::Plan, fault)),

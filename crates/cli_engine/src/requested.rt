@@ -7,12 +7,12 @@ ghost use Rattle.inputs.specs.Refused.{IsRefusal};
 ghost use Rattle.inputs.specs.Texts.{Shelved, texts_of};
 
 use crate::notes::Notes;
-use hints::{idle_inputs, providers_of};
 use index::Index;
-use inputs::{Before, Fault, Input, Part, Refusal, Requested, Shelf, read_part, requested_in};
+use input_notes::{idle_inputs, providers_of};
+use inputs::{Before, Fault, Input, Refusal, Requested, Shelf, WholeText, read_part, requested_in};
 use std::alloc::{AllocError, Global};
 
-/// The sentences on inputs that change no answer, each a line. Costs what `hints::idle_inputs` costs. Memory alone can fail.
+/// The sentences on inputs that change no answer, each a line. Costs what `input_notes::idle_inputs` costs. Memory alone can fail.
 pub fn idle_text(
     alloc: Global,
     before: &Before<'_, '_, '_, '_, '_, '_, '_, '_>,
@@ -33,7 +33,7 @@ fn idle_in(
     }
 }
 
-/// Tells which of the inputs change no answer, where that is wanted. Where the notes don't have it, it costs what `hints::idle_inputs`
+/// Tells which of the inputs change no answer, where that is wanted. Where the notes don't have it, it costs what `input_notes::idle_inputs`
 /// costs. Memory alone can fail.
 pub(crate) fn tell_idle_inputs(
     alloc: Global,
@@ -103,7 +103,7 @@ fn tell_providers(
 }
 
 /// Tells, where the request with this text is refused and that is wanted, which of the inputs change no answer, and who provides the name
-/// that no package has, where it is refused for one. Costs what `hints::idle_inputs` and `hints::providers_of` cost. Memory alone can
+/// that no package has, where it is refused for one. Costs what `input_notes::idle_inputs` and `input_notes::providers_of` cost. Memory alone can
 /// fail.
 pub fn tell_refused(
     alloc: Global,
@@ -131,16 +131,19 @@ pub(crate) fn read_asked<'i, 'a, S: Shelf>(
     before: &Before<'_, '_, '_, '_, '_, '_, 'i, 'a>,
     notes: &mut Notes,
 ) -> Result<Requested<'i, 'a>, Refusal>
-    ensures asked { (at : Shelved) → S.found shelf.old ≡ Some at → AreReadAs (texts_of before.now.settings.now at) before.now
+    ensures asked { (at : Shelved) → S.known_texts shelf.old ≡ Some at
+        → AreReadAs (texts_of before.now.settings.now at) before.now
         → IfOk result (λ requested.
-        DenotesAsked (texts_of before.now.settings.now at) requested.universe (start_of before.now) requested.asks_all_versions) }
+        DenotesAsked (texts_of before.now.settings.now at) requested.universe
+        (start_of before.now) requested.asks_all_versions) }
     ensures over { IfOk result (λ requested. IsOver before.now requested.universe) }
-    ensures refused { (at : Shelved) → S.found shelf.old ≡ Some at → AreReadAs (texts_of before.now.settings.now at) before.now
+    ensures refused { (at : Shelved) → S.known_texts shelf.old ≡ Some at
+        → AreReadAs (texts_of before.now.settings.now at) before.now
         → IfErr result (λ refused. IsRefusal (texts_of before.now.settings.now at) refused) }
     ensures read { IsReadBy S.Shelf shelf.old result shelf.new }
     ensures unasked { notes.old.wanted ≡ false → notes.new ≡ notes.old }
 {
-    let text = read_part(alloc, shelf, Part::Request, Input::Request)?;
+    let text = read_part(alloc, shelf, WholeText::Request, Input::Request)?;
     let answer = requested_in(alloc, before, None, text.as_slice());
     tell_refused(alloc, before, text.as_slice(), &answer, notes)?;
     answer

@@ -5,12 +5,12 @@ ghost use Rattle.inputs.specs.ReadAs.{IsOver, start_of};
 ghost use Rattle.solver.specs.Solved.{IsSolved};
 ghost use Rattle.cli_engine.specs.Solution.{IsSaidOfRequest};
 
-use crate::lines::answered;
+use crate::lines::answer_of_solved;
 use crate::notes::Notes;
 use crate::refuted::tell_solved;
 use crate::requested::read_asked;
-use documents::Members;
 use inputs::{Before, OverRequest, Question, Refusal, Requested, Shelf};
+use json_answers::Members;
 use plancheck_state::{parse_packages, view};
 use rules::Items;
 use solver::{Solved, solve};
@@ -80,7 +80,7 @@ impl OverRequest for Solve {
         let universe = &requested.universe;
         let solved = solve_over(alloc, before, universe, self.limit)?;
         let asks_all_versions = requested.asks_all_versions;
-        let answer = answered(
+        let answer = answer_of_solved(
             alloc,
             universe,
             solved,

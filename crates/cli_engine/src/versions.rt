@@ -2,8 +2,8 @@
 ghost use Rattle.std.specs.Prelude.{◌≡◌, false};
 
 use crate::notes::Notes;
-use crate::offered::Candidate;
-use hints::{versions_of, without_candidate};
+use crate::offered::CandidateAnswer;
+use input_notes::{versions_of, without_candidate};
 use inputs::Before;
 use std::alloc::{AllocError, Global};
 
@@ -12,7 +12,7 @@ fn lines_on(
     alloc: Global,
     before: &Before<'_, '_, '_, '_, '_, '_, '_, '_>,
     names: &[&str],
-    candidates: &[Option<Candidate>],
+    candidates: &[Option<CandidateAnswer>],
     tells_versions: bool,
 ) -> Result<Vec<u8>, AllocError> {
     let mut text = Vec::new(alloc);
@@ -35,12 +35,12 @@ fn lines_on(
 }
 
 /// Tells of each of the names, whose candidates these are, why it has none where it has none, and where that is asked for which versions
-/// there are, with their priorities; where sentences are wanted. Costs what `hints::versions_of` costs for each name. Memory alone can fail.
+/// there are, with their priorities; where sentences are wanted. Costs what `input_notes::versions_of` costs for each name. Memory alone can fail.
 pub(crate) fn tell_candidates(
     alloc: Global,
     before: &Before<'_, '_, '_, '_, '_, '_, '_, '_>,
     names: &[&str],
-    candidates: &[Option<Candidate>],
+    candidates: &[Option<CandidateAnswer>],
     tells_versions: bool,
     notes: &mut Notes,
 ) -> Result<(), AllocError>

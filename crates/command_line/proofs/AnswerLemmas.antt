@@ -82,22 +82,22 @@ taken : (app : App) (words : List Text) → app ≡ debplan_app → (is_simple_a
     → fault_of debplan_app words ≡ []
 taken app words is clause = subst (λ (a : App). fault_of a words ≡ []) is (clause (ap is_simple_and_free is ∙ free))
 
-found : (app : App) (words : List Text) (m : ArgMatches) → app ≡ debplan_app → HasMatchesOf app words m
+same_asked : (app : App) (words : List Text) (m : ArgMatches) → app ≡ debplan_app → HasMatchesOf app words m
     → asked_of (subcommand_of debplan_app words) ≡ asked_of (subcommand_rows_of m)
-found app words m is clause =
+same_asked app words m is clause =
     sym (ap asked_of ((clause (ap is_simple is ∙ simple)).1 ∙ ap (λ (a : App). subcommand_of a words) is))
 
 pub spelled_by : (app : App) (words : List Text) (m : ArgMatches) (asked : Asked) → app ≡ debplan_app
     → (is_simple_and_free app ≡ true → fault_of app words ≡ []) → HasMatchesOf app words m
     → Some asked ≡ asked_of (subcommand_rows_of m) → spelled words ≡ Some asked
 spelled_by app words m asked is kinds matches made =
-    spelled_is words asked (taken app words is kinds) (found app words m is matches ∙ sym made)
+    spelled_is words asked (taken app words is kinds) (same_asked app words m is matches ∙ sym made)
 
 pub refused_by_us : (app : App) (words : List Text) (m : ArgMatches) (e : Error) → app ≡ debplan_app
     → (is_simple_and_free app ≡ true → fault_of app words ≡ []) → HasMatchesOf app words m
     → None ≡ asked_of (subcommand_rows_of m) → HasKind (ValueValidation ∷ []) e → HasKind (faults_of words) e
 refused_by_us app words m e is kinds matches made said =
-    said_by_us words e (taken app words is kinds) (found app words m is matches ∙ sym made) said
+    said_by_us words e (taken app words is kinds) (same_asked app words m is matches ∙ sym made) said
 
 pub refused_by_clap : (app : App) (words : List Text) (e : Error) → app ≡ debplan_app
     → (is_simple_and_free app ≡ true → HasKind (fault_of app words) e) → HasKind (faults_of words) e

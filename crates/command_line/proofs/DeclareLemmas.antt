@@ -10,7 +10,7 @@ use Rattle.clap.specs.declared.builder.command.Command.{Command}
 use Rattle.clap.specs.declared.builder.command.Command.TheOpen.{Command-F}
 use Rattle.clap.specs.declared.builder.command.Command.TheViews.{out-Command}
 use Rattle.clap.specs.declared.builder.value_parser.ValueParser.TheVariants.{Signed}
-use Rattle.command_line.specs.Program.{Declares, Takes, command, number, optional, repeated}
+use Rattle.command_line.specs.Program.{Declares, Takes, command, number, optional, repeatable}
 
 -- one more argument is one more word that the command takes
 pub more : (name : Text) (rules : List Rule) (rule : Rule) (old new : Command) (a : Arg) → Declares (command name rules) old → Takes rule a
@@ -42,9 +42,9 @@ let_out rule a b takes is = record {
   global = ap (λ (x : Arg). x.global) is ∙ takes.global;
 }
 
-pub again : (rule : Rule) (a b : Arg) → Takes rule a → b ≡ record a { action = Some Append } → Takes (repeated rule) b
+pub again : (rule : Rule) (a b : Arg) → Takes rule a → b ≡ record a { action = Some Append } → Takes (repeatable rule) b
 again rule a b takes is = record {
-  reads = ap rule_of is ∙ ap repeated takes.reads;
+  reads = ap rule_of is ∙ ap repeatable takes.reads;
   global = ap (λ (x : Arg). x.global) is ∙ takes.global;
 }
 

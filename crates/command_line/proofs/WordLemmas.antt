@@ -48,7 +48,7 @@ own_put f before after word next rest takes e is =
     ∙ ap (λ ts. map f before ++ ts) (word_left word rest takes)
 
 -- what a search that found nothing says
-pub where_none : {X : Type 0} (N : Type 0) (P : X → Type 0) (found : Option X) → ((x : X) → found ≡ Some x → ⊥) → MatchOption found N P → N
+pub where_none : {X : Type 0} (N : Type 0) (P : X → Type 0) (item : Option X) → ((x : X) → item ≡ Some x → ⊥) → MatchOption item N P → N
 where_none N P None not_some known = known
 where_none N P (Some x) not_some known = absurd (not_some x refl)
 

@@ -9,9 +9,9 @@ use Rattle.command_line.specs.declared.call.Extent.TheVariants as reach
 use Rattle.command_line.specs.declared.call.Format.{Format}
 use Rattle.command_line.specs.declared.call.Options.{Options}
 use Rattle.command_line.specs.declared.call.Relation.{Relation}
-use Rattle.command_line.specs.declared.call.Request.{Request as RequestHeld}
-use Rattle.command_line.specs.declared.call.Request.TheVariants as held
-use Rattle.command_line.specs.declared.call.Shard.{Shard}
+use Rattle.command_line.specs.declared.call.RequestSource.{RequestSource as RequestHeld}
+use Rattle.command_line.specs.declared.call.RequestSource.TheVariants as held
+use Rattle.command_line.specs.declared.call.ShardNumber.{ShardNumber}
 use Rattle.command_line.specs.declared.call.Survey.{Survey as SurveyHeld}
 
 -- which packages there are, and what is preferred among them
@@ -23,11 +23,11 @@ pub record Given : Type 0 where
   pub target : Option Text
 
 -- what a request is read from
-pub data Request : Type 0 where
+pub data RequestSource : Type 0 where
   -- the path of its file
-  file : Text → Request
+  file : Text → RequestSource
   -- its goals, in their order
-  goals : List Text → Request
+  goals : List Text → RequestSource
 
 -- how much of a request has to be fulfilled
 pub data Extent : Type 0 where
@@ -41,7 +41,7 @@ pub record Survey : Type 0 where
   pub names : List Text
   pub asks_all_versions : Bool
   pub without_essential : Bool
-  pub shard : Shard
+  pub shard : ShardNumber
   pub limit : ℕ
 
 -- one of the calls of the program; the last two of one whose answer may be told in another way are whether it explains, and the format
@@ -51,13 +51,13 @@ pub data Asked : Type 0 where
   -- the names
   candidate : Given → List Text → Bool → Format → Asked
   -- the request, the limit, and how much of the request has to be fulfilled
-  solve : Given → Request → ℕ → Extent → Bool → Format → Asked
+  solve : Given → RequestSource → ℕ → Extent → Bool → Format → Asked
   -- the request, and the plan
-  check_plan : Given → Request → Text → Bool → Format → Asked
+  check_plan : Given → RequestSource → Text → Bool → Format → Asked
   -- the request, and the refutation
-  check_refutation : Given → Request → Text → Bool → Format → Asked
+  check_refutation : Given → RequestSource → Text → Bool → Format → Asked
   -- the request, the plan, the journal, and the output
-  apply : Given → Request → Text → Text → Text → Asked
+  apply : Given → RequestSource → Text → Text → Text → Asked
   -- which packages, and the folder of refutations, if there is one
   installable : Given → Survey → Option Text → Bool → Format → Asked
   -- the limit of each search for the questions of standard input
@@ -68,7 +68,7 @@ abbrev pub texts_by : List (Bor Text) → List Text
 texts_by words = map (λ word. word.now) words
 
 -- the request, in texts
-abbrev pub request_by : RequestHeld → Request
+abbrev pub request_by : RequestHeld → RequestSource
 request_by (held.File path) = file path.now
 request_by (held.Goals words) = goals (texts_by words.items)
 

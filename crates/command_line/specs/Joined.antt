@@ -59,6 +59,6 @@ joined_behind None (word ∷ rest) = if takes_value word then joined_behind (Som
     else if ends_options word then word ∷ rest else word ∷ joined_behind None rest
 
 -- the words of a command line so, of which the first is the program's own name
-abbrev pub joined : List Text → List Text
-joined [] = []
-joined (name ∷ words) = name ∷ joined_behind None words
+abbrev pub joined_words : List Text → List Text
+joined_words [] = []
+joined_words (name ∷ words) = name ∷ joined_behind None words

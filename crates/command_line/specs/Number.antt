@@ -4,7 +4,7 @@ use Rattle.std.specs.Char.{is_ascii_digit}
 use Rattle.std.specs.List.{after_first, before_first, list_all}
 use Rattle.std.specs.Str.Parse.{digits_value}
 use Rattle.command_line.specs.Joined.{Text}
-use Rattle.command_line.specs.declared.call.Shard.{Shard}
+use Rattle.command_line.specs.declared.call.ShardNumber.{ShardNumber}
 
 -- the word is a number as each text of the program writes it: in decimal, without a sign, and with no zero before others
 abbrev pub is_number : Text → Bool
@@ -25,20 +25,20 @@ limit_of None = Some default_limit
 limit_of (Some word) = number_of word
 
 -- the shard of these numbers, where the first is from 1 to the second
-abbrev pub shard_by : Option ℕ → Option ℕ → Option Shard
+abbrev pub shard_by : Option ℕ → Option ℕ → Option ShardNumber
 shard_by (Some number) (Some count) = if nat_le 1 number && nat_le number count
     then Some (record { number = number; of = count }) else None
 shard_by _ _ = None
 
 -- the shard K/N that a word writes, by the numbers before and behind its first `/` (47)
-abbrev pub shard_named : Text → Option Shard
+abbrev pub shard_named : Text → Option ShardNumber
 shard_named word = shard_by (number_of (before_first (λ byte. byte == 47) word)) (number_of (after_first (λ byte. byte == 47) word))
 
 -- the shard where none is given: all
-abbrev pub whole_shard : Shard
+abbrev pub whole_shard : ShardNumber
 whole_shard = record { number = 1; of = 1 }
 
 -- the shard that the value of `--shard` writes, or all without one
-abbrev pub shard_of : Option Text → Option Shard
+abbrev pub shard_of : Option Text → Option ShardNumber
 shard_of None = Some whole_shard
 shard_of (Some word) = shard_named word

@@ -21,8 +21,8 @@ abbrev pub optional : Rule → Rule
 optional rule = record rule { required = false }
 
 -- what may stand there more than once
-abbrev pub repeated : Rule → Rule
-repeated rule = record rule { action = Some Append }
+abbrev pub repeatable : Rule → Rule
+repeatable rule = record rule { action = Some Append }
 
 -- an option without a value
 abbrev pub flag : Text → Rule
@@ -55,7 +55,7 @@ compare_command = command (codes "compare") (word (codes "version") ∷ word (co
 
 -- the options that say what is requested, of which one kind is given
 abbrev pub request_options : List Rule
-request_options = optional (option (codes "request")) ∷ repeated (optional (option (codes "goal"))) ∷ []
+request_options = optional (option (codes "request")) ∷ repeatable (optional (option (codes "goal"))) ∷ []
 
 -- the options that say how much of a request has to be fulfilled
 abbrev pub extent_options : List Rule
@@ -67,7 +67,7 @@ telling_options = flag (codes "explain") ∷ optional (option (codes "format")) 
 
 -- debplan candidate OPTIONS [--explain] [--format FORMAT] NAME..
 abbrev pub candidate_command : Shape
-candidate_command = command (codes "candidate") (options ++ telling_options ++ repeated (word (codes "name")) ∷ [])
+candidate_command = command (codes "candidate") (options ++ telling_options ++ repeatable (word (codes "name")) ∷ [])
 
 -- debplan solve OPTIONS REQUEST [--limit N] [--keep-back [--request-out FILE] | --refutation-format N] [--explain] [--format FORMAT],
 -- where REQUEST is --request FILE, or --goal TEXT once or more
@@ -98,7 +98,7 @@ survey_options = flag (codes "all-versions") ∷ flag (codes "without-essential"
 -- [--format FORMAT] [NAME..]
 abbrev pub installable_command : Shape
 installable_command = command (codes "installable") (archive_options ++ survey_options ++ optional (option (codes "refutations"))
-    ∷ telling_options ++ optional (repeated (word (codes "name"))) ∷ [])
+    ∷ telling_options ++ optional (repeatable (word (codes "name"))) ∷ [])
 
 -- debplan batch OPTIONS [--limit N]
 abbrev pub batch_command : Shape

@@ -7,7 +7,7 @@ use Rattle.clap.specs.Simple.{subcommand_of}
 use Rattle.clap.specs.Walk.{Row, all_of, first_of, is_empty}
 use Rattle.clap.specs.declared.error.Error.{Error}
 use Rattle.clap.specs.declared.error.kind.ErrorKind.TheVariants.{ValueValidation}
-use Rattle.command_line.specs.Asked.{Asked, Extent, Given, Request, Survey, asked_by, file, goals}
+use Rattle.command_line.specs.Asked.{Asked, Extent, Given, RequestSource, Survey, asked_by, file, goals}
 use Rattle.command_line.specs.Asked as ask
 use Rattle.command_line.specs.Joined.{Text}
 use Rattle.command_line.specs.Number.{limit_of}
@@ -26,12 +26,12 @@ abbrev pub is_standard_input : Text → Bool
 is_standard_input path = bytes_eq path (codes "-")
 
 -- standard input would be read as the request and as what is judged
-abbrev pub is_read_twice : Request → Text → Bool
+abbrev pub is_read_twice : RequestSource → Text → Bool
 is_read_twice (file path) judged = is_standard_input path && is_standard_input judged
 is_read_twice (goals texts) judged = false
 
 -- the path of what is judged beside a request, where it can be read beside it
-abbrev pub judged_beside : Request → Option Text → Option Text
+abbrev pub judged_beside : RequestSource → Option Text → Option Text
 judged_beside request (Some path) = if is_read_twice request path then None else Some path
 judged_beside request None = None
 
@@ -41,25 +41,25 @@ candidate_of (Some given) (Some names) explains (Some format) = Some (ask.candid
 candidate_of _ _ explains _ = None
 
 -- the request that is to be solved
-abbrev pub solve_of : Option Given → Option Request → Option ℕ → Option Extent → Bool → Option Format → Option Asked
+abbrev pub solve_of : Option Given → Option RequestSource → Option ℕ → Option Extent → Bool → Option Format → Option Asked
 solve_of (Some given) (Some request) (Some limit) (Some extent) explains (Some format) =
     Some (ask.solve given request limit extent explains format)
 solve_of _ _ _ _ explains _ = None
 
 -- the text that is to be judged beside a request
-abbrev pub judged_of : (Given → Request → Text → Bool → Format → Asked) → Option Given → Option Request → Option Text → Bool
+abbrev pub judged_of : (Given → RequestSource → Text → Bool → Format → Asked) → Option Given → Option RequestSource → Option Text → Bool
     → Option Format → Option Asked
 judged_of asks (Some given) (Some request) judged explains (Some format) =
     option_map (λ path. asks given request path explains format) (judged_beside request judged)
 judged_of asks _ _ _ explains _ = None
 
 -- the plan that is to be carried out, with the paths of the journal and of the output
-abbrev pub taken_of : Given → Request → Option Text → Option Text → Option Text → Option Asked
+abbrev pub taken_of : Given → RequestSource → Option Text → Option Text → Option Text → Option Asked
 taken_of given request (Some plan) (Some journal) (Some output) = Some (ask.apply given request plan journal output)
 taken_of given request _ _ _ = None
 
 -- the plan that is to be carried out beside a request
-abbrev pub apply_of : Option Given → Option Request → Option Text → Option Text → Option Text → Option Asked
+abbrev pub apply_of : Option Given → Option RequestSource → Option Text → Option Text → Option Text → Option Asked
 apply_of (Some given) (Some request) plan journal output = taken_of given request (judged_beside request plan) journal output
 apply_of _ _ _ _ _ = None
 

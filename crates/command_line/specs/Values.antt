@@ -3,14 +3,14 @@ use Rattle.std.specs.Prelude.{ℕ, Bool, true, false, List, [], Option, Some, No
 use Rattle.std.specs.Option.{unwrap_or}
 use Rattle.std.specs.Str.{bytes_eq}
 use Rattle.clap.specs.Walk.{Row, all_of, first_of}
-use Rattle.command_line.specs.Asked.{Extent, Given, Request, Survey, file, goals, possible, whole}
+use Rattle.command_line.specs.Asked.{Extent, Given, RequestSource, Survey, file, goals, possible, whole}
 use Rattle.command_line.specs.Joined.{Text}
 use Rattle.command_line.specs.Number.{limit_of, shard_of}
 use Rattle.command_line.specs.declared.call.Format.{Format}
 use Rattle.command_line.specs.declared.call.Format.TheVariants as format
 use Rattle.command_line.specs.declared.call.Relation.{Relation}
 use Rattle.command_line.specs.declared.call.Relation.TheVariants as relation
-use Rattle.command_line.specs.declared.call.Shard.{Shard}
+use Rattle.command_line.specs.declared.call.ShardNumber.{ShardNumber}
 
 -- the relation that a word of deb-version(7) names, if it does
 abbrev pub relation_of : Text → Option Relation
@@ -51,13 +51,13 @@ abbrev pub archive_given_in : List Row → Option Given
 archive_given_in rows = given_with (Some (unwrap_or (first_of (codes "status") rows) nothing_installed)) rows
 
 -- the request of a file or of goals, where one of them is given and not both
-abbrev pub request_of : Option Text → Option (List Text) → Option Request
+abbrev pub request_of : Option Text → Option (List Text) → Option RequestSource
 request_of (Some path) None = Some (file path)
 request_of None (Some texts) = Some (goals texts)
 request_of _ _ = None
 
 -- the request among the values of a command
-abbrev pub request_in : List Row → Option Request
+abbrev pub request_in : List Row → Option RequestSource
 request_in rows = request_of (first_of (codes "request") rows) (all_of (codes "goal") rows)
 
 -- the value of a flag says that it stands among the words
@@ -109,7 +109,7 @@ extent_in rows = extent_of (is_set (first_of (codes "keep-back") rows)) (first_o
     (first_of (codes "refutation-format") rows)
 
 -- which packages are asked about: those of these names, or all without names, and of them those of the shard
-abbrev pub survey_of : Option (List Text) → Bool → Bool → Option Shard → Option ℕ → Option Survey
+abbrev pub survey_of : Option (List Text) → Bool → Bool → Option ShardNumber → Option ℕ → Option Survey
 survey_of names asks_all_versions without_essential (Some shard) (Some limit) = Some (record {
   names = unwrap_or names [];
   asks_all_versions = asks_all_versions;

@@ -10,7 +10,7 @@ ghost use Rattle.command_line.specs.Spelled as spell;
 ghost use Rattle.command_line.specs.Values as value;
 ghost use Rattle.command_line.specs.Asked as ask;
 
-use crate::call::{Call, Extent, Format, Options, Relation, Request, Survey};
+use crate::call::{Call, Extent, Format, Options, Relation, RequestSource, Survey};
 use crate::declare::program;
 use crate::number::{limit_of, shard_of};
 use clap::error::ErrorKind;
@@ -34,7 +34,8 @@ pub fn call_of<'a>(alloc: Global, words: &'a [String]) -> Result<Call<'a>, Error
 
 // The call that these values make, unless one is missing, or isn't what its command wants. Memory alone can fail.
 fn call_in<'a>(alloc: Global, matches: &ArgMatches<'a>) -> Result<Option<Call<'a>>, AllocError>
-    ensures { IfOk result (λ call. option_map asked_by call ≡ spell.asked_of (subcommand_rows_of matches.now)) }
+    ensures { IfOk result
+        (λ call. option_map asked_by call ≡ spell.asked_of (subcommand_rows_of matches.now)) }
 {
     match matches.subcommand() {
         Some(named) => call_of_command(alloc, named.0, named.1),
@@ -48,7 +49,9 @@ fn call_of_command<'a>(
     command: &str,
     values: &ArgMatches<'a>,
 ) -> Result<Option<Call<'a>>, AllocError>
-    ensures { IfOk result (λ call. option_map asked_by call ≡ spell.asked_in command.now (rows_of (found_of values.now))) }
+    ensures { IfOk result
+        (λ call. option_map asked_by call
+        ≡ spell.asked_in command.now (rows_of (found_of values.now))) }
 {
     let request = request_in(alloc, values)?;
     let names = texts_in(alloc, values, "name")?;
@@ -60,12 +63,15 @@ fn call_named<'a>(
     alloc: Global,
     command: &str,
     values: &ArgMatches<'a>,
-    request: Option<Request<'a>>,
+    request: Option<RequestSource<'a>>,
     names: Option<Vec<&'a str>>,
 ) -> Option<Call<'a>>
-    requires request { option_map request_by request ≡ value.request_in (rows_of (found_of values.now)) }
-    requires names { option_map (λ names. texts_by names.items) names ≡ all_of (codes "name") (rows_of (found_of values.now)) }
-    ensures { option_map asked_by result ≡ spell.asked_in command.now (rows_of (found_of values.now)) }
+    requires request { option_map request_by request
+        ≡ value.request_in (rows_of (found_of values.now)) }
+    requires names { option_map (λ names. texts_by names.items) names
+        ≡ all_of (codes "name") (rows_of (found_of values.now)) }
+    ensures { option_map asked_by result
+        ≡ spell.asked_in command.now (rows_of (found_of values.now)) }
 {
     match command {
         "compare" => comparison_in(values),
@@ -128,7 +134,8 @@ fn mistake_of_request(values: &ArgMatches<'_>) -> &'static str {
 
 // The first value of this name.
 fn text_in<'a>(values: &ArgMatches<'a>, name: &str) -> Option<&'a str>
-    ensures { option_map (λ word. word.now) result ≡ first_of name.now (rows_of (found_of values.now)) }
+    ensures { option_map (λ word. word.now) result
+        ≡ first_of name.now (rows_of (found_of values.now)) }
 {
     values.get_str(name)
 }
@@ -140,7 +147,8 @@ fn texts_in<'a>(
     name: &str,
 ) -> Result<Option<Vec<&'a str>>, AllocError>
     ensures { IfOk result (λ texts.
-        option_map (λ texts. texts_by texts.items) texts ≡ all_of name.now (rows_of (found_of values.now))) }
+        option_map (λ texts. texts_by texts.items) texts
+        ≡ all_of name.now (rows_of (found_of values.now))) }
 {
     match values.get_strs(name) {
         Some(texts) => Ok(Some(texts.to_vec(alloc)?)),
@@ -209,7 +217,8 @@ fn extent_of<'a>(
     path: Option<&'a str>,
     version: Option<&'a str>,
 ) -> Option<Extent<'a>>
-    ensures { option_map extent_by result ≡ value.extent_of keeps_back (option_map (λ word. word.now) path.entry)
+    ensures { option_map extent_by result
+        ≡ value.extent_of keeps_back (option_map (λ word. word.now) path.entry)
         (option_map (λ word. word.now) version.entry) }
 {
     match (keeps_back, path, version) {
@@ -222,7 +231,8 @@ fn extent_of<'a>(
 
 // All of the request, unless the word for the version of the text of a refutation is none of one.
 fn whole_of<'a>(version: Option<&str>) -> Option<Extent<'a>>
-    ensures { option_map extent_by result ≡ value.whole_of (option_map (λ word. word.now) version.entry) }
+    ensures { option_map extent_by result
+        ≡ value.whole_of (option_map (λ word. word.now) version.entry) }
 {
     match version {
         None => Some(Extent::Whole { names_pairs: false }),
@@ -245,8 +255,10 @@ fn naming_of(word: &str) -> Option<bool>
 }
 
 fn comparison_in<'a>(values: &ArgMatches<'a>) -> Option<Call<'a>>
-    ensures { let rows = rows_of (found_of values.now) in option_map asked_by result ≡ spell.comparison_of
-        (first_of (codes "version") rows) (first_of (codes "relation") rows) (first_of (codes "other") rows) }
+    ensures { let rows = rows_of (found_of values.now) in option_map asked_by result
+        ≡ spell.comparison_of
+        (first_of (codes "version") rows) (first_of (codes "relation") rows)
+        (first_of (codes "other") rows) }
 {
     let version = text_in(values, "version")?;
     let relation = text_in(values, "relation")?;
@@ -293,7 +305,8 @@ fn archive_options_in<'a>(values: &ArgMatches<'a>) -> Option<Options<'a>>
 // The options with this path of the status file, unless one that is required is missing.
 fn options_with<'a>(status: Option<&'a str>, values: &ArgMatches<'a>) -> Option<Options<'a>>
     ensures { option_map given_by result
-        ≡ value.given_with (option_map (λ word. word.now) status.entry) (rows_of (found_of values.now)) }
+        ≡ value.given_with (option_map (λ word. word.now) status.entry)
+        (rows_of (found_of values.now)) }
 {
     let arch = text_in(values, "arch")?;
     let status = status?;
@@ -310,28 +323,39 @@ fn options_with<'a>(status: Option<&'a str>, values: &ArgMatches<'a>) -> Option<
 }
 
 // The request, unless it's missing or given in both ways. Memory alone can fail.
-fn request_in<'a>(alloc: Global, values: &ArgMatches<'a>) -> Result<Option<Request<'a>>, AllocError>
-    ensures { IfOk result (λ request. option_map request_by request ≡ value.request_in (rows_of (found_of values.now))) }
+fn request_in<'a>(
+    alloc: Global,
+    values: &ArgMatches<'a>,
+) -> Result<Option<RequestSource<'a>>, AllocError>
+    ensures { IfOk result
+        (λ request. option_map request_by request
+        ≡ value.request_in (rows_of (found_of values.now))) }
 {
     let goals = texts_in(alloc, values, "goal")?;
     Ok(request_of(text_in(values, "request"), goals))
 }
 
-fn request_of<'a>(path: Option<&'a str>, goals: Option<Vec<&'a str>>) -> Option<Request<'a>>
+fn request_of<'a>(path: Option<&'a str>, goals: Option<Vec<&'a str>>) -> Option<RequestSource<'a>>
     ensures { option_map request_by result
-        ≡ value.request_of (option_map (λ word. word.now) path.entry) (option_map (λ texts. texts_by texts.items) goals.entry) }
+        ≡ value.request_of (option_map (λ word. word.now) path.entry)
+        (option_map (λ texts. texts_by texts.items) goals.entry) }
 {
     match (path, goals) {
-        (Some(path), None) => Some(Request::File(path)),
-        (None, Some(goals)) => Some(Request::Goals(goals)),
+        (Some(path), None) => Some(RequestSource::File(path)),
+        (None, Some(goals)) => Some(RequestSource::Goals(goals)),
         _ => None,
     }
 }
 
 // The path of what is judged, unless it's missing, or would be read where the request is read too.
-fn judged_in<'a>(values: &ArgMatches<'a>, name: &str, request: &Request<'_>) -> Option<&'a str>
+fn judged_in<'a>(
+    values: &ArgMatches<'a>,
+    name: &str,
+    request: &RequestSource<'_>,
+) -> Option<&'a str>
     ensures { option_map (λ word. word.now) result
-        ≡ spell.judged_beside (request_by request.now) (first_of name.now (rows_of (found_of values.now))) }
+        ≡ spell.judged_beside (request_by request.now)
+        (first_of name.now (rows_of (found_of values.now))) }
 {
     let judged = text_in(values, name)?;
     if is_read_twice(request, judged) {
@@ -340,18 +364,20 @@ fn judged_in<'a>(values: &ArgMatches<'a>, name: &str, request: &Request<'_>) -> 
     Some(judged)
 }
 
-fn is_read_twice(request: &Request<'_>, judged: &str) -> bool
+fn is_read_twice(request: &RequestSource<'_>, judged: &str) -> bool
     ensures { result ≡ spell.is_read_twice (request_by request.now) judged.now }
 {
     match request {
-        Request::File(path) => *path == "-" && judged == "-",
-        Request::Goals(_) => false,
+        RequestSource::File(path) => *path == "-" && judged == "-",
+        RequestSource::Goals(_) => false,
     }
 }
 
 fn candidate_in<'a>(values: &ArgMatches<'a>, names: Option<Vec<&'a str>>) -> Option<Call<'a>>
-    ensures { let rows = rows_of (found_of values.now) in option_map asked_by result ≡ spell.candidate_of
-        (value.given_in rows) (option_map (λ names. texts_by names.items) names.entry) (value.explains_in rows) (value.format_in rows) }
+    ensures { let rows = rows_of (found_of values.now) in option_map asked_by result
+        ≡ spell.candidate_of
+        (value.given_in rows) (option_map (λ names. texts_by names.items) names.entry)
+        (value.explains_in rows) (value.format_in rows) }
 {
     let options = options_in(values)?;
     let names = names?;
@@ -365,9 +391,11 @@ fn candidate_in<'a>(values: &ArgMatches<'a>, names: Option<Vec<&'a str>>) -> Opt
     })
 }
 
-fn solve_in<'a>(values: &ArgMatches<'a>, request: Option<Request<'a>>) -> Option<Call<'a>>
-    ensures { let rows = rows_of (found_of values.now) in option_map asked_by result ≡ spell.solve_of
-        (value.given_in rows) (option_map request_by request.entry) (limit_of (first_of (codes "limit") rows)) (value.extent_in rows)
+fn solve_in<'a>(values: &ArgMatches<'a>, request: Option<RequestSource<'a>>) -> Option<Call<'a>>
+    ensures { let rows = rows_of (found_of values.now) in option_map asked_by result
+        ≡ spell.solve_of
+        (value.given_in rows) (option_map request_by request.entry)
+        (limit_of (first_of (codes "limit") rows)) (value.extent_in rows)
         (value.explains_in rows) (value.format_in rows) }
 {
     let options = options_in(values)?;
@@ -386,9 +414,11 @@ fn solve_in<'a>(values: &ArgMatches<'a>, request: Option<Request<'a>>) -> Option
     })
 }
 
-fn plan_in<'a>(values: &ArgMatches<'a>, request: Option<Request<'a>>) -> Option<Call<'a>>
-    ensures { let rows = rows_of (found_of values.now) in option_map asked_by result ≡ spell.judged_of ask.check_plan
-        (value.given_in rows) (option_map request_by request.entry) (first_of (codes "plan") rows) (value.explains_in rows)
+fn plan_in<'a>(values: &ArgMatches<'a>, request: Option<RequestSource<'a>>) -> Option<Call<'a>>
+    ensures { let rows = rows_of (found_of values.now) in option_map asked_by result
+        ≡ spell.judged_of ask.check_plan
+        (value.given_in rows) (option_map request_by request.entry) (first_of (codes "plan") rows)
+        (value.explains_in rows)
         (value.format_in rows) }
 {
     let options = options_in(values)?;
@@ -405,9 +435,14 @@ fn plan_in<'a>(values: &ArgMatches<'a>, request: Option<Request<'a>>) -> Option<
     })
 }
 
-fn refutation_in<'a>(values: &ArgMatches<'a>, request: Option<Request<'a>>) -> Option<Call<'a>>
-    ensures { let rows = rows_of (found_of values.now) in option_map asked_by result ≡ spell.judged_of ask.check_refutation
-        (value.given_in rows) (option_map request_by request.entry) (first_of (codes "refutation") rows) (value.explains_in rows)
+fn refutation_in<'a>(
+    values: &ArgMatches<'a>,
+    request: Option<RequestSource<'a>>,
+) -> Option<Call<'a>>
+    ensures { let rows = rows_of (found_of values.now) in option_map asked_by result
+        ≡ spell.judged_of ask.check_refutation
+        (value.given_in rows) (option_map request_by request.entry)
+        (first_of (codes "refutation") rows) (value.explains_in rows)
         (value.format_in rows) }
 {
     let options = options_in(values)?;
@@ -424,9 +459,11 @@ fn refutation_in<'a>(values: &ArgMatches<'a>, request: Option<Request<'a>>) -> O
     })
 }
 
-fn apply_in<'a>(values: &ArgMatches<'a>, request: Option<Request<'a>>) -> Option<Call<'a>>
-    ensures { let rows = rows_of (found_of values.now) in option_map asked_by result ≡ spell.apply_of
-        (value.given_in rows) (option_map request_by request.entry) (first_of (codes "plan") rows) (first_of (codes "journal") rows)
+fn apply_in<'a>(values: &ArgMatches<'a>, request: Option<RequestSource<'a>>) -> Option<Call<'a>>
+    ensures { let rows = rows_of (found_of values.now) in option_map asked_by result
+        ≡ spell.apply_of
+        (value.given_in rows) (option_map request_by request.entry) (first_of (codes "plan") rows)
+        (first_of (codes "journal") rows)
         (first_of (codes "output") rows) }
 {
     let options = options_in(values)?;
@@ -448,8 +485,10 @@ fn installable_in<'a>(
     values: &ArgMatches<'a>,
     names: Option<Vec<&'a str>>,
 ) -> Option<Call<'a>>
-    ensures { let rows = rows_of (found_of values.now) in option_map asked_by result ≡ spell.installable_of
-        (value.archive_given_in rows) (value.survey_with (option_map (λ names. texts_by names.items) names.entry) rows)
+    ensures { let rows = rows_of (found_of values.now) in option_map asked_by result
+        ≡ spell.installable_of
+        (value.archive_given_in rows)
+        (value.survey_with (option_map (λ names. texts_by names.items) names.entry) rows)
         (first_of (codes "refutations") rows) (value.explains_in rows) (value.format_in rows) }
 {
     let options = archive_options_in(values)?;
@@ -467,7 +506,8 @@ fn installable_in<'a>(
 }
 
 fn batch_in<'a>(values: &ArgMatches<'a>) -> Option<Call<'a>>
-    ensures { let rows = rows_of (found_of values.now) in option_map asked_by result ≡ spell.batch_of
+    ensures { let rows = rows_of (found_of values.now) in option_map asked_by result
+        ≡ spell.batch_of
         (value.given_in rows) (limit_of (first_of (codes "limit") rows)) }
 {
     let options = options_in(values)?;
@@ -482,14 +522,15 @@ fn survey_in<'a>(
     names: Option<Vec<&'a str>>,
 ) -> Option<Survey<'a>>
     ensures { option_map survey_by result
-        ≡ value.survey_with (option_map (λ names. texts_by names.items) names.entry) (rows_of (found_of values.now)) }
+        ≡ value.survey_with (option_map (λ names. texts_by names.items) names.entry)
+        (rows_of (found_of values.now)) }
 {
     let shard = shard_of(text_in(values, "shard"))?;
     let limit = limit_of(text_in(values, "limit"))?;
     let asks_all_versions = is_set(values, "all-versions");
     let without_essential = is_set(values, "without-essential");
     Some(Survey {
-        names: listed(alloc, names),
+        names: words_or_none(alloc, names),
         asks_all_versions,
         without_essential,
         shard,
@@ -498,8 +539,9 @@ fn survey_in<'a>(
 }
 
 // The words, or none.
-fn listed<'a>(alloc: Global, words: Option<Vec<&'a str>>) -> Vec<&'a str>
-    ensures { texts_by result.items ≡ unwrap_or (option_map (λ words. texts_by words.items) words.entry) [] }
+fn words_or_none<'a>(alloc: Global, words: Option<Vec<&'a str>>) -> Vec<&'a str>
+    ensures { texts_by result.items
+        ≡ unwrap_or (option_map (λ words. texts_by words.items) words.entry) [] }
 {
     match words {
         Some(words) => words,

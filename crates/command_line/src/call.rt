@@ -34,7 +34,7 @@ pub enum Relation {
 
 /// What a request is read from.
 #[derive(Drop)]
-pub enum Request<'a> {
+pub enum RequestSource<'a> {
     /// The file at this path, where `-` is standard input.
     File(&'a str),
     /// These goals in their order, each a line of its own.
@@ -55,7 +55,7 @@ pub enum Extent<'a> {
 
 /// Which of the packages in their order are asked about: the K-th of every N.
 #[derive(Clone, Copy)]
-pub struct Shard {
+pub struct ShardNumber {
     /// K, from 1 to N.
     pub number: u32,
     /// N.
@@ -72,7 +72,7 @@ pub struct Survey<'a> {
     /// Whether essential packages are not asked for beside each.
     pub without_essential: bool,
     /// Which of them.
-    pub shard: Shard,
+    pub shard: ShardNumber,
     /// The conflicts after which each search gives up.
     pub limit: u32,
 }
@@ -115,7 +115,7 @@ pub enum Call<'a> {
         /// By these files.
         options: Options<'a>,
         /// The request.
-        request: Request<'a>,
+        request: RequestSource<'a>,
         /// The conflicts after which the search gives up.
         limit: u32,
         /// How much of the request has to be fulfilled.
@@ -130,7 +130,7 @@ pub enum Call<'a> {
         /// By these files.
         options: Options<'a>,
         /// The request.
-        request: Request<'a>,
+        request: RequestSource<'a>,
         /// The path of the plan, where `-` is standard input.
         plan: &'a str,
         /// Whether the call explains.
@@ -143,7 +143,7 @@ pub enum Call<'a> {
         /// By these files.
         options: Options<'a>,
         /// The request.
-        request: Request<'a>,
+        request: RequestSource<'a>,
         /// The path of the refutation, where `-` is standard input.
         refutation: &'a str,
         /// Whether the call explains.
@@ -156,7 +156,7 @@ pub enum Call<'a> {
         /// By these files.
         options: Options<'a>,
         /// The request.
-        request: Request<'a>,
+        request: RequestSource<'a>,
         /// The path of the plan, where `-` is standard input.
         plan: &'a str,
         /// The path of the journal.

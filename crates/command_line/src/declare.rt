@@ -16,7 +16,7 @@ use std::alloc::{AllocError, Global};
 pub fn program<'a>(alloc: Global) -> Result<Command<'a>, AllocError>
     ensures { IfOk result (λ c. app_of c ≡ app.debplan_app) }
 {
-    let start = named(
+    let start = command_of(
         alloc,
         "debplan",
         "Find and check plans of dpkg actions for Debian packages",
@@ -37,7 +37,7 @@ pub fn program<'a>(alloc: Global) -> Result<Command<'a>, AllocError>
 }
 
 // The command of this name, which does this, with the text below its help.
-fn named<'a>(alloc: Global, name: &'a str, about: &'a str, below: &'a str) -> Command<'a>
+fn command_of<'a>(alloc: Global, name: &'a str, about: &'a str, below: &'a str) -> Command<'a>
     ensures { app.Declares (app.command name.entry.now []) result }
 {
     Command::new(alloc, name).about(about).after_help(below)
@@ -46,7 +46,7 @@ fn named<'a>(alloc: Global, name: &'a str, about: &'a str, below: &'a str) -> Co
 fn compare<'a>(alloc: Global) -> Result<Command<'a>, AllocError>
     ensures { IfOk result (app.Declares app.compare_command) }
 {
-    let start = named(alloc, "compare", "Compare two versions", ANSWERS);
+    let start = command_of(alloc, "compare", "Compare two versions", ANSWERS);
     let version = word(alloc, "version", "V", "A version");
     let relation = word(alloc, "relation", "REL", RELATION_HELP);
     let other = word(alloc, "other", "W", "The version to compare it to");
@@ -59,13 +59,13 @@ fn compare<'a>(alloc: Global) -> Result<Command<'a>, AllocError>
 fn candidate<'a>(alloc: Global) -> Result<Command<'a>, AllocError>
     ensures { IfOk result (app.Declares app.candidate_command) }
 {
-    let start = named(
+    let start = command_of(
         alloc,
         "candidate",
         "Show the candidate version of each package and its priority",
         ANSWERS,
     );
-    let name = repeated(word(alloc, "name", "NAME", "The name of a package, or several"));
+    let name = repeatable(word(alloc, "name", "NAME", "The name of a package, or several"));
     let optioned = with_options(alloc, start)?;
     let with_telling = with_telling(alloc, optioned)?;
     let whole = with_telling.arg(name)?;
@@ -75,7 +75,7 @@ fn candidate<'a>(alloc: Global) -> Result<Command<'a>, AllocError>
 fn solve<'a>(alloc: Global) -> Result<Command<'a>, AllocError>
     ensures { IfOk result (app.Declares app.solve_command) }
 {
-    let start = named(
+    let start = command_of(
         alloc,
         "solve",
         "Find a plan for a request, or a refutation",
@@ -93,7 +93,7 @@ fn solve<'a>(alloc: Global) -> Result<Command<'a>, AllocError>
 fn check_plan<'a>(alloc: Global) -> Result<Command<'a>, AllocError>
     ensures { IfOk result (app.Declares app.check_plan_command) }
 {
-    let start = named(
+    let start = command_of(
         alloc,
         "check-plan",
         "Check a plan of dpkg actions: each step by Policy, and the end",
@@ -111,7 +111,7 @@ fn check_plan<'a>(alloc: Global) -> Result<Command<'a>, AllocError>
 fn check_refutation<'a>(alloc: Global) -> Result<Command<'a>, AllocError>
     ensures { IfOk result (app.Declares app.check_refutation_command) }
 {
-    let start = named(
+    let start = command_of(
         alloc,
         "check-refutation",
         "Check a refutation: that no choice among the admitted versions fulfils the request",
@@ -134,7 +134,7 @@ fn check_refutation<'a>(alloc: Global) -> Result<Command<'a>, AllocError>
 fn apply<'a>(alloc: Global) -> Result<Command<'a>, AllocError>
     ensures { IfOk result (app.Declares app.apply_command) }
 {
-    let start = named(
+    let start = command_of(
         alloc,
         "apply",
         "Carry a good plan out on the status database, by a journal, and write the status file at its end",
@@ -165,7 +165,7 @@ fn apply<'a>(alloc: Global) -> Result<Command<'a>, AllocError>
 fn installable<'a>(alloc: Global) -> Result<Command<'a>, AllocError>
     ensures { IfOk result (app.Declares app.installable_command) }
 {
-    let start = named(
+    let start = command_of(
         alloc,
         "installable",
         "Say of each package of the indices, or of some, whether it can be installed",
@@ -184,7 +184,7 @@ fn installable<'a>(alloc: Global) -> Result<Command<'a>, AllocError>
 fn batch<'a>(alloc: Global) -> Result<Command<'a>, AllocError>
     ensures { IfOk result (app.Declares app.batch_command) }
 {
-    let start = named(
+    let start = command_of(
         alloc,
         "batch",
         "Answer many questions over one reading: each line of standard input is a question as JSON",
@@ -227,7 +227,7 @@ fn with_request<'a>(alloc: Global, start: Command<'a>) -> Result<Command<'a>, Al
         "FILE",
         "Goals, one a line: install, remove, purge or upgrade NAME, upgrade-all, no-remove; - is standard input",
     );
-    let goal = repeated(optional(
+    let goal = repeatable(optional(
         alloc,
         "goal",
         "TEXT",
@@ -305,9 +305,9 @@ fn limit<'a>(alloc: Global) -> Arg<'a>
 
 // The names of packages, of which there may be none.
 fn names<'a>(alloc: Global) -> Arg<'a>
-    ensures { app.Takes (app.optional (app.repeated (app.word (codes "name")))) result }
+    ensures { app.Takes (app.optional (app.repeatable (app.word (codes "name")))) result }
 {
-    repeated(word(
+    repeatable(word(
         alloc,
         "name",
         "NAME",
@@ -340,7 +340,8 @@ fn with_files<'a>(
     start: Command<'a>,
     status: Arg<'a>,
 ) -> Result<Command<'a>, AllocError>
-    ensures { (name : Text) (rule : Rule) → app.Declares (app.command name []) start.entry → app.Takes rule status.entry
+    ensures { (name : Text) (rule : Rule) → app.Declares (app.command name []) start.entry
+        → app.Takes rule status.entry
         → IfOk result (app.Declares (app.command name (app.options_with rule))) }
 {
     let arch = option(alloc, "arch", "ARCH", "The architecture, such as amd64");
@@ -371,8 +372,9 @@ fn with_files<'a>(
 }
 
 // What may stand there more than once.
-fn repeated<'a>(argument: Arg<'a>) -> Arg<'a>
-    ensures { (rule : Rule) → app.Takes rule argument.entry → app.Takes (app.repeated rule) result }
+fn repeatable<'a>(argument: Arg<'a>) -> Arg<'a>
+    ensures { (rule : Rule) → app.Takes rule argument.entry
+        → app.Takes (app.repeatable rule) result }
 {
     argument.action(ArgAction::Append)
 }

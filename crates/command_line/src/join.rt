@@ -1,6 +1,6 @@
 // Each option that takes a value joined to the word behind it.
 ghost use Rattle.std.specs.Prelude.{◌≡◌, ◌++◌, ◌∷◌, [], IfOk, List, None, OnOk, false, map, string_bytes};
-ghost use Rattle.command_line.specs.Joined.{Text, answer_options, is_among, joined, joined_behind, needed_options, optional_options, own_options, request_options, survey_options, takes_value, with_value};
+ghost use Rattle.command_line.specs.Joined.{Text, answer_options, is_among, joined_words, joined_behind, needed_options, optional_options, own_options, request_options, survey_options, takes_value, with_value};
 ghost use Rattle.command_line.specs.Place.{left, place_behind};
 ghost use Rattle.command_line.specs.declared.join.Place.TheVariants.{Behind, Free, Operands};
 
@@ -19,8 +19,9 @@ enum Place<'a> {
 
 /// The words, of which the first is the program's own name, with each option that takes a value joined to the word behind it, as
 /// `--arch=amd64`: so that word is its value, whatever it begins with (getopt_long(3)). Memory alone can fail.
-pub fn joined(alloc: Global, words: &[&str]) -> Result<Vec<String>, AllocError>
-    ensures { IfOk result (λ all. map string_bytes all.items ≡ joined (map (λ word. word.now) words.now)) }
+pub fn joined_words(alloc: Global, words: &[&str]) -> Result<Vec<String>, AllocError>
+    ensures { IfOk result
+        (λ all. map string_bytes all.items ≡ joined_words (map (λ word. word.now) words.now)) }
 {
     match words.split_first() {
         Some((name, rest)) => joined_from(alloc, name, rest),
@@ -30,7 +31,9 @@ pub fn joined(alloc: Global, words: &[&str]) -> Result<Vec<String>, AllocError>
 
 // The words so, of which this is the program's own name.
 fn joined_from(alloc: Global, name: &str, rest: &[&str]) -> Result<Vec<String>, AllocError>
-    ensures { IfOk result (λ all. map string_bytes all.items ≡ name.now ∷ joined_behind None (map (λ word. word.now) rest.now)) }
+    ensures { IfOk result
+        (λ all. map string_bytes all.items ≡ name.now
+        ∷ joined_behind None (map (λ word. word.now) rest.now)) }
 {
     let start = with_word(alloc, Vec::new(alloc), name)?;
     join(alloc, rest, start)
@@ -50,7 +53,9 @@ fn join(alloc: Global, words: &[&str], mut all: Vec<String>) -> Result<Vec<Strin
 
 // Behind these the option that waits for a value, if one does: there is none.
 fn end(alloc: Global, place: Place<'_>, all: Vec<String>) -> Result<Vec<String>, AllocError>
-    ensures { IfOk result (λ after. map string_bytes after.items ≡ map string_bytes all.items ++ left place.entry []) }
+    ensures { IfOk result
+        (λ after. map string_bytes after.items ≡ map string_bytes all.items
+        ++ left place.entry []) }
 {
     match place {
         Place::Behind(option) => with_word(alloc, all, option),
@@ -66,7 +71,8 @@ fn put<'a>(
     word: &'a str,
     all: &mut Vec<String>,
 ) -> Result<Place<'a>, AllocError>
-    ensures { IfOk result (λ next. (rest : List Text) → map string_bytes all.new.items ++ left next rest
+    ensures { IfOk result
+        (λ next. (rest : List Text) → map string_bytes all.new.items ++ left next rest
         ≡ map string_bytes all.old.items ++ left place.entry (word.entry.now ∷ rest)) }
 {
     match place {
@@ -81,7 +87,8 @@ fn put_free<'a>(
     word: &'a str,
     all: &mut Vec<String>,
 ) -> Result<Place<'a>, AllocError>
-    ensures { IfOk result (λ next. (rest : List Text) → map string_bytes all.new.items ++ left next rest
+    ensures { IfOk result
+        (λ next. (rest : List Text) → map string_bytes all.new.items ++ left next rest
         ≡ map string_bytes all.old.items ++ left Free (word.entry.now ∷ rest)) }
 {
     if takes_value(word) {
@@ -93,7 +100,8 @@ fn put_free<'a>(
 
 fn put_own<'a>(alloc: Global, word: &str, all: &mut Vec<String>) -> Result<Place<'a>, AllocError>
     requires { takes_value word.now ≡ false }
-    ensures { IfOk result (λ next. (rest : List Text) → map string_bytes all.new.items ++ left next rest
+    ensures { IfOk result
+        (λ next. (rest : List Text) → map string_bytes all.new.items ++ left next rest
         ≡ map string_bytes all.old.items ++ left Free (word.now ∷ rest)) }
 {
     put_word(alloc, word, all)?;
@@ -106,7 +114,8 @@ fn put_value<'a>(
     value: &str,
     all: &mut Vec<String>,
 ) -> Result<Place<'a>, AllocError>
-    ensures { IfOk result (λ next. (rest : List Text) → map string_bytes all.new.items ++ left next rest
+    ensures { IfOk result
+        (λ next. (rest : List Text) → map string_bytes all.new.items ++ left next rest
         ≡ map string_bytes all.old.items ++ left (Behind option.entry) (value.now ∷ rest)) }
 {
     let text = joined_text(alloc, option, value)?;
@@ -119,7 +128,8 @@ fn put_operand<'a>(
     word: &str,
     all: &mut Vec<String>,
 ) -> Result<Place<'a>, AllocError>
-    ensures { IfOk result (λ next. (rest : List Text) → map string_bytes all.new.items ++ left next rest
+    ensures { IfOk result
+        (λ next. (rest : List Text) → map string_bytes all.new.items ++ left next rest
         ≡ map string_bytes all.old.items ++ left Operands (word.now ∷ rest)) }
 {
     put_word(alloc, word, all)?;
@@ -127,7 +137,8 @@ fn put_operand<'a>(
 }
 
 fn put_word(alloc: Global, word: &str, all: &mut Vec<String>) -> Result<(), AllocError>
-    ensures { OnOk result (map string_bytes all.new.items ≡ map string_bytes all.old.items ++ word.now ∷ []) }
+    ensures { OnOk result
+        (map string_bytes all.new.items ≡ map string_bytes all.old.items ++ word.now ∷ []) }
 {
     let text = text_of(alloc, word)?;
     all.push(text)?;
@@ -135,7 +146,8 @@ fn put_word(alloc: Global, word: &str, all: &mut Vec<String>) -> Result<(), Allo
 }
 
 fn with_word(alloc: Global, mut all: Vec<String>, word: &str) -> Result<Vec<String>, AllocError>
-    ensures { IfOk result (λ after. map string_bytes after.items ≡ map string_bytes all.items ++ word.now ∷ []) }
+    ensures { IfOk result
+        (λ after. map string_bytes after.items ≡ map string_bytes all.items ++ word.now ∷ []) }
 {
     put_word(alloc, word, &mut all)?;
     Ok(all)

@@ -4,13 +4,13 @@ ghost use Rattle.std.specs.Char.{is_ascii_digit};
 ghost use Rattle.std.specs.List.{list_all};
 ghost use Rattle.command_line.specs.Number.{is_number, limit_of, number_of, shard_by, shard_named, shard_of};
 
-use crate::call::Shard;
+use crate::call::ShardNumber;
 
 /// After how many conflicts a search gives up where nothing else is said.
 const DEFAULT_LIMIT: u32 = 100_000;
 
 /// Which of the packages are asked about where nothing is said of it: all.
-const WHOLE_SHARD: Shard = Shard { number: 1, of: 1 };
+const WHOLE_SHARD: ShardNumber = ShardNumber { number: 1, of: 1 };
 
 /// The limit that this value writes, or that there is without one.
 pub(crate) fn limit_of(word: Option<&str>) -> Option<u32>
@@ -23,7 +23,7 @@ pub(crate) fn limit_of(word: Option<&str>) -> Option<u32>
 }
 
 /// The shard that this value writes, or all without one.
-pub(crate) fn shard_of(word: Option<&str>) -> Option<Shard>
+pub(crate) fn shard_of(word: Option<&str>) -> Option<ShardNumber>
     ensures { result ≡ shard_of (option_map (λ word. word.now) word.entry) }
 {
     match word {
@@ -33,7 +33,7 @@ pub(crate) fn shard_of(word: Option<&str>) -> Option<Shard>
 }
 
 // The shard K/N that the word writes.
-fn shard_named(word: &str) -> Option<Shard>
+fn shard_named(word: &str) -> Option<ShardNumber>
     ensures { result ≡ shard_named word.now }
 {
     match word.split_once('/') {
@@ -43,7 +43,7 @@ fn shard_named(word: &str) -> Option<Shard>
 }
 
 // The shard of these numbers, of which the first is to be from 1 to the second.
-fn shard_by(number: Option<u32>, count: Option<u32>) -> Option<Shard>
+fn shard_by(number: Option<u32>, count: Option<u32>) -> Option<ShardNumber>
     ensures { result ≡ shard_by number count }
 {
     match (number, count) {
@@ -52,11 +52,11 @@ fn shard_by(number: Option<u32>, count: Option<u32>) -> Option<Shard>
     }
 }
 
-fn shard(number: u32, of: u32) -> Option<Shard>
+fn shard(number: u32, of: u32) -> Option<ShardNumber>
     ensures { result ≡ shard_by (Some number) (Some of) }
 {
     if 1 <= number && number <= of {
-        return Some(Shard { number, of });
+        return Some(ShardNumber { number, of });
     }
     None
 }
@@ -66,14 +66,14 @@ fn number_of(word: &str) -> Option<u32>
     ensures { result ≡ number_of word.now }
 {
     if is_number(word.as_bytes()) {
-        parsed(word)
+        parse_number(word)
     } else {
         None
     }
 }
 
 // The number that this numeral writes, if it fits.
-fn parsed(word: &str) -> Option<u32>
+fn parse_number(word: &str) -> Option<u32>
     requires { is_number word.now ≡ true }
     ensures { result ≡ number_of word.now }
 {

@@ -5,7 +5,8 @@ use std::alloc::{AllocError, Global};
 
 /// The words as text, unless one of them isn't UTF-8. Memory alone can fail.
 pub fn texts_of(alloc: Global, words: &[Vec<u8>]) -> Result<Option<Vec<&str>>, AllocError>
-    ensures { IfOk result (λ texts. MatchOption texts (¬ All IsUtf8 (map (λ word. word.items) words.now)) (λ texts.
+    ensures { IfOk result
+        (λ texts. MatchOption texts (¬ All IsUtf8 (map (λ word. word.items) words.now)) (λ texts.
         All IsUtf8 (map (λ word. word.items) words.now)
         × (map (λ text. text.now) texts.items ≡ map (λ word. word.items) words.now))) }
 {
@@ -21,7 +22,8 @@ pub fn texts_of(alloc: Global, words: &[Vec<u8>]) -> Result<Option<Vec<&str>>, A
 
 // The word as text, if it's UTF-8.
 fn text_in(word: &[u8]) -> Option<&str>
-    ensures { MatchOption result (¬ IsUtf8 word.now) (λ text. IsUtf8 word.now × (text.now ≡ word.now)) }
+    ensures { MatchOption result (¬ IsUtf8 word.now)
+        (λ text. IsUtf8 word.now × (text.now ≡ word.now)) }
 {
     match str::from_utf8(word) {
         Ok(text) => Some(text),

@@ -1,6 +1,7 @@
 -- Lines that are heard and replied to, one after the other.
-use Rattle.std.specs.Prelude.{◌≡◌, ◌≢◌, ◌⊎◌, ◌<◌, ℕ, List, [], ◌∷◌, ◌++◌, Option, length}
-use Rattle.std.specs.Io.KnownBytes.{Appends, Consumes, IsAtEnd}
+use Rattle.std.specs.Prelude.{◌≡◌, ◌≢◌, ◌⊎◌, ◌<◌, ℕ, List, [], ◌∷◌, ◌++◌, Option, length, true}
+use Rattle.std.specs.Io.KnownBytes.{Consumes, IsAtEnd}
+use Rattle.conversation.specs.Stream.{IsBehind, Written}
 use Rattle.conversation.specs.declared.ended.Ended.{Ended}
 use Rattle.conversation.specs.declared.ended.Ended.TheVariants as ended
 use Rattle.text_lines.specs.Lines.{HasNoNewline}
@@ -42,10 +43,11 @@ pub record AreHeard (most : ℕ) (Replies : List ℕ → List ℕ → Type 0) (t
   pub whole : how ≡ ended.Answered → IsAtEnd left
   pub long : how ≡ ended.TooLong → IsTooLong most left
 
--- this stands behind what was written before, unless it couldn't be written
-abbrev pub IsWrittenUnless : Ended → Option (List ℕ) → Option (List ℕ) → List ℕ → Type 0
-IsWrittenUnless how old new said = how ≢ ended.Unwritten → Appends old new said
+-- this stands behind what was written before; or it couldn't be written, and a write failed
+pub record IsWrittenUnless (how : Ended) (old new : Written) (said : List ℕ) : Type 0 where
+  pub stands : how ≢ ended.Unwritten → IsBehind old new said
+  pub failed : how ≡ ended.Unwritten → new.has_failed ≡ true
 
 -- lines were heard from the front of a text, and what was said in reply stands behind what was written before
-abbrev pub AreAnswered : ℕ → (List ℕ → List ℕ → Type 0) → Option (List ℕ) → Option (List ℕ) → Option (List ℕ) → Ended → Type 0
+abbrev pub AreAnswered : ℕ → (List ℕ → List ℕ → Type 0) → Option (List ℕ) → Written → Written → Ended → Type 0
 AreAnswered most Replies text old new how = (said : List ℕ) × AreHeard most Replies text said how × IsWrittenUnless how old new said

@@ -71,7 +71,7 @@ fn open_journal(rt: &HostRuntime, path: &[u8]) -> io::Result<File> {
 }
 
 // Counts a call that failed.
-fn counted<T>(failures: &mut u64, answer: Result<T, Failed>) -> Result<T, Failed>
+fn count_failure<T>(failures: &mut u64, answer: Result<T, Failed>) -> Result<T, Failed>
     ensures { Counts result failures.old failures.new }
 {
     match answer {
@@ -100,7 +100,7 @@ impl Disk for JournalFile<'_> {
             Some(disk) => disk.len(),
             None => Err(Failed),
         };
-        counted(&mut self.failures, answer)
+        count_failure(&mut self.failures, answer)
     }
 
     fn read(&mut self, at: usize, buffer: &mut [u8]) -> Result<(), Failed> {
@@ -109,7 +109,7 @@ impl Disk for JournalFile<'_> {
             Some(disk) => disk.read(at, buffer),
             None => Err(Failed),
         };
-        counted(&mut self.failures, answer)
+        count_failure(&mut self.failures, answer)
     }
 
     fn write_at(&mut self, at: usize, bytes: &[u8]) -> Result<(), Failed> {
@@ -118,7 +118,7 @@ impl Disk for JournalFile<'_> {
             Some(disk) => disk.write_at(at, bytes),
             None => Err(Failed),
         };
-        counted(&mut self.failures, answer)
+        count_failure(&mut self.failures, answer)
     }
 
     fn cut(&mut self, len: usize) -> Result<(), Failed> {
@@ -127,7 +127,7 @@ impl Disk for JournalFile<'_> {
             Some(disk) => disk.cut(len),
             None => Err(Failed),
         };
-        counted(&mut self.failures, answer)
+        count_failure(&mut self.failures, answer)
     }
 
     fn sync(&mut self) -> Result<(), Failed> {
@@ -136,6 +136,6 @@ impl Disk for JournalFile<'_> {
             Some(disk) => disk.sync(),
             None => Err(Failed),
         };
-        counted(&mut self.failures, answer)
+        count_failure(&mut self.failures, answer)
     }
 }

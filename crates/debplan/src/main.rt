@@ -9,15 +9,15 @@ mod places;
 mod watch;
 mod words;
 
-use cli::{refuse_for_memory, run};
+use cli::{Stream, refuse_for_memory, run};
 use machine::Machine;
 use std::alloc::AllocError;
 use std::process::ExitCode;
 use words::words_of;
 
 fn main(rt: HostRuntime) -> ExitCode {
-    let mut out = rt.stdout();
-    let mut err = rt.stderr();
+    let mut out = Stream::new(rt.stdout());
+    let mut err = Stream::new(rt.stderr());
     let status = match words_of(&rt) {
         Ok(words) => {
             let mut machine = Machine::new(&rt);

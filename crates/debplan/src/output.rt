@@ -44,7 +44,7 @@ fn write_on_open(rt: &HostRuntime, path: &str, text: &[u8]) -> io::Result<()> {
 
 fn put_named(rt: &HostRuntime, place: &str, text: &[u8]) -> io::Result<()> {
     match fs::symlink_metadata(rt, place) {
-        Ok(found) if found.is_file() => put_beside(rt, place, text, Some(found)),
+        Ok(metadata) if metadata.is_file() => put_beside(rt, place, text, Some(metadata)),
         Ok(_) => write_through(rt, place, text),
         Err(error) if error.kind() == ErrorKind::NotFound => put_beside(rt, place, text, None),
         Err(error) => Err(error),
@@ -62,11 +62,11 @@ fn put_beside(
     rt: &HostRuntime,
     place: &str,
     text: &[u8],
-    found: Option<Metadata>,
+    metadata: Option<Metadata>,
 ) -> io::Result<()> {
     let folder = open_folder(rt, place)?;
-    let Beside { path, file } = make_beside(rt, place, &options_for(&found))?;
-    let put = match write_file(file, text, found) {
+    let Beside { path, file } = make_beside(rt, place, &options_for(&metadata))?;
+    let put = match write_file(file, text, metadata) {
         Ok(()) => fs::rename(rt, path.as_str(), place),
         Err(error) => Err(error),
     };
@@ -87,10 +87,10 @@ struct Beside {
 }
 
 // How a new file is made: one that will replace another so that nobody else can read it before it has that one's permissions.
-fn options_for(found: &Option<Metadata>) -> OpenOptions {
+fn options_for(metadata: &Option<Metadata>) -> OpenOptions {
     let mut options = OpenOptions::new();
     options.write(true).create_new(true);
-    if found.is_some() {
+    if metadata.is_some() {
         options.mode(0o600);
     }
     options
@@ -121,19 +121,19 @@ fn path_beside(rt: &HostRuntime, place: &str, number: u32) -> io::Result<String>
 }
 
 // Writes a new file and brings it to the disk, with the owner and the permissions of what it will replace.
-fn write_file(file: File, text: &[u8], found: Option<Metadata>) -> io::Result<()> {
+fn write_file(file: File, text: &[u8], metadata: Option<Metadata>) -> io::Result<()> {
     let mut file = file;
-    if let Some(found) = found {
-        keep_owner(&file, &found);
-        file.set_permissions(found.permissions())?;
+    if let Some(metadata) = metadata {
+        keep_owner(&file, &metadata);
+        file.set_permissions(metadata.permissions())?;
     }
     file.write_all(text)?;
     file.sync_all()
 }
 
 // Gives the file this owner and this group, or this group alone, as far as the system lets it.
-fn keep_owner(file: &File, found: &Metadata) {
-    if fchown(file, Some(found.uid()), Some(found.gid())).is_err() {
-        let _refused = fchown(file, None, Some(found.gid()));
+fn keep_owner(file: &File, metadata: &Metadata) {
+    if fchown(file, Some(metadata.uid()), Some(metadata.gid())).is_err() {
+        let _refused = fchown(file, None, Some(metadata.gid()));
     }
 }

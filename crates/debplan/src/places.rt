@@ -43,7 +43,7 @@ fn is_of_process(rt: &HostRuntime, path: &str) -> io::Result<bool> {
 // The path behind the link at this one; none where no link is there.
 fn target_of(rt: &HostRuntime, path: &str) -> io::Result<Option<String>> {
     match fs::symlink_metadata(rt, path) {
-        Ok(found) if found.is_symlink() => Ok(Some(behind_link(rt, path)?)),
+        Ok(metadata) if metadata.is_symlink() => Ok(Some(behind_link(rt, path)?)),
         Ok(_) => Ok(None),
         Err(error) if error.kind() == ErrorKind::NotFound => Ok(None),
         Err(error) => Err(error),
@@ -101,7 +101,7 @@ fn is_one(left: &Metadata, right: &Metadata) -> bool {
 /// Whether the path leads to a plain file, which can be read again.
 pub(crate) fn is_plain(rt: &HostRuntime, path: &[u8]) -> bool {
     match text_of(path) {
-        Ok(path) => fs::metadata(rt, path).is_ok_and(|found| found.is_file()),
+        Ok(path) => fs::metadata(rt, path).is_ok_and(|metadata| metadata.is_file()),
         Err(_) => false,
     }
 }

@@ -83,7 +83,7 @@ last-behind test (c ∷ front) b rest here none = last-later test c (front ++ b 
 some_last : (test : ℕ → Bool) (bytes : List ℕ) → list_any test bytes ≡ true → (i : ℕ) × IsLastAt test bytes i
 some_last test [] some = absurd (false≢true some)
 some_last test (b ∷ rest) some = elim (cases_Bool (list_any test rest)) [
-  | inl later ↦ let found = some_last test rest later in (suc found.0, last-later test b rest found.0 found.1)
+  | inl later ↦ let last = some_last test rest later in (suc last.0, last-later test b rest last.0 last.1)
   | inr none ↦ elim (or_cases (test b) (list_any test rest) some) [
     | inl here ↦ (0, last-behind test [] b rest here none)
     | inr later ↦ absurd (both_ways (list_any test rest) none later)
@@ -141,9 +141,9 @@ passed_rest rest e =
 -- a rest cut at its last hyphen
 hyphen-cut : (rest : List ℕ) → list_any is_hyphen rest ≡ true → rest ≡ before_revision rest ++ 45 ∷ after_upstream rest
 hyphen-cut rest some =
-    let found = some_last is_hyphen rest some in
-    let i = found.0 in
-    let at = found.1 in
+    let last = some_last is_hyphen rest some in
+    let i = last.0 in
+    let at = last.1 in
     let byte : get_or rest i 0 ≡ 45 = eqb-true (get_or rest i 0) 45 at.passes in
     rw some
     (cut-behind i rest at.within

@@ -169,7 +169,8 @@ fn first_cmp<'a>(a: &'a [u8], b: &'a [u8]) -> (Ordering, &'a [u8], &'a [u8])
 
 // What the first pieces of two parts decide behind what both share, and what is left to compare.
 fn next_cmp<'a>(a: &'a [u8], b: &'a [u8]) -> (Ordering, &'a [u8], &'a [u8])
-    ensures decides { part_cmp a.now b.now ≡ ordering_then result.0 (part_cmp result.1.now result.2.now) }
+    ensures decides { part_cmp a.now b.now
+        ≡ ordering_then result.0 (part_cmp result.1.now result.2.now) }
     ensures shorter { 0 < length a.now + length b.now
         → length result.1.now + length result.2.now < length a.now + length b.now }
 {

@@ -57,7 +57,8 @@ fn first_colon(text: &[u8]) -> Option<usize>
 }
 
 fn last_hyphen(text: &[u8]) -> Option<usize>
-    ensures { MatchOption result (list_any is_hyphen text.now ≡ false) (λ i. IsLastAt is_hyphen text.now i) }
+    ensures { MatchOption result (list_any is_hyphen text.now ≡ false)
+        (λ i. IsLastAt is_hyphen text.now i) }
 {
     let mut end = text.len();
     while end > 0 {
@@ -125,7 +126,8 @@ pub fn split_epoch(text: &[u8]) -> Result<(u32, &[u8]), BadVersion>
 fn split_at_hyphen(rest: &[u8]) -> (&[u8], Option<&[u8]>)
     ensures upstream { result.0.now ≡ before_revision rest.now }
     ensures revision { MatchOption result.1 (list_any is_hyphen rest.now ≡ false)
-        (λ revision. (list_any is_hyphen rest.now ≡ true) × (revision.now ≡ after_upstream rest.now)) }
+        (λ revision. (list_any is_hyphen rest.now ≡ true)
+        × (revision.now ≡ after_upstream rest.now)) }
 {
     match last_hyphen(rest) {
         None => (rest, None),

@@ -43,7 +43,8 @@ impl<'a> Version<'a> {
     /// no memory is taken.
     #[tactic(auto, unfolding(rules::specs::VersionFault::first_fault))]
     pub fn parse(text: &'a [u8]) -> Result<Version<'a>, BadVersion>
-        ensures { MatchResult result (λ version. (first_fault text.now ≡ None) × (version ≡ text.now))
+        ensures { MatchResult result
+            (λ version. (first_fault text.now ≡ None) × (version ≡ text.now))
             (λ fault. first_fault text.now ≡ Some fault) }
     {
         if text.is_empty() {

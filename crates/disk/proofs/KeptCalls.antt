@@ -1,8 +1,8 @@
 -- What each call that a file in memory keeps makes of its facts.
 use Rattle.std.proofs.Common.{◌≡◌, inl, inr, ⊎_elim, ℕ, ◌≤◌, Bool, false, List, [], ◌∷◌, ◌++◌, length, take, drop, reverse, refl, sym, ◌∙◌, ap, subst, arith}
 use Rattle.std.proofs.lemmas.List.{reverse-append}
-use Rattle.disk.specs.declared.changes.Call.{Call}
-use Rattle.disk.specs.declared.changes.Call.TheVariants.{Length, Reading, Writing, Cutting, Syncing}
+use Rattle.disk.specs.declared.changes.DiskCall.{DiskCall}
+use Rattle.disk.specs.declared.changes.DiskCall.TheVariants.{Length, Reading, Writing, Cutting, Syncing}
 use Rattle.disk.specs.declared.changes.Made.{Made}
 use Rattle.disk.specs.Calls.{Elapses, Follows, Moves, Same, Shortened, Stays, Torn}
 use Rattle.disk.specs.Facts.{Only}
@@ -77,21 +77,21 @@ stays_on seen log made was nothing here = record {
     back c (inl is) = subst (λ (l : List ℕ). Leaves seen log l) (sym is) (among seen log)
     back c (inr (d, left, took)) = subst (λ (l : List ℕ). Leaves seen log l) (sym (nothing d c took)) (subst (λ (l : List ℕ). Leaves l log d) was left)
 
-quiet_before : (call : Call) (failed : Bool) (tail x : List ℕ) → IsQuiet call failed → bytes_before call tail x ≡ x
+quiet_before : (call : DiskCall) (failed : Bool) (tail x : List ℕ) → IsQuiet call failed → bytes_before call tail x ≡ x
 quiet_before Length failed tail x quiet = refl
 quiet_before (Reading at n) failed tail x quiet = refl
 quiet_before (Writing at b) failed tail x quiet = absurd quiet
 quiet_before (Cutting n) failed tail x quiet = absurd quiet
 quiet_before Syncing failed tail x quiet = refl
 
-quiet_takes : (call : Call) (failed : Bool) → IsQuiet call failed → (x c : List ℕ) → Takes call failed x c → c ≡ x
+quiet_takes : (call : DiskCall) (failed : Bool) → IsQuiet call failed → (x c : List ℕ) → Takes call failed x c → c ≡ x
 quiet_takes Length failed quiet x c took = took
 quiet_takes (Reading at n) failed quiet x c took = took
 quiet_takes (Writing at b) failed quiet x c took = absurd quiet
 quiet_takes (Cutting n) failed quiet x c took = absurd quiet
 quiet_takes Syncing failed quiet x c took = took.1
 
-quiet_here : (call : Call) (failed : Bool) → IsQuiet call failed → (x : List ℕ) → Takes call failed x x
+quiet_here : (call : DiskCall) (failed : Bool) → IsQuiet call failed → (x : List ℕ) → Takes call failed x x
 quiet_here Length failed quiet x = refl
 quiet_here (Reading at n) failed quiet x = refl
 quiet_here (Writing at b) failed quiet x = absurd quiet
@@ -112,7 +112,7 @@ sync_done seen log log' made is ok pushed = λ c left.
     only c (subst (λ (l : List Made). Leaves seen l c) (newest log log' made pushed) left)
   where
     none : (d c : List ℕ) → Takes made.call made.failed d c → ⊥
-    none d c took = let passed : Takes Syncing false d c = subst (λ (b : Bool). Takes Syncing b d c) ok (subst (λ (k : Call). Takes k made.failed d c) is took) in cc (passed.0)
+    none d c took = let passed : Takes Syncing false d c = subst (λ (b : Bool). Takes Syncing b d c) ok (subst (λ (k : DiskCall). Takes k made.failed d c) is took) in cc (passed.0)
 
     only : (c : List ℕ) → Leaves seen (made ∷ reverse log) c → c ≡ seen
     only c (inl same) = same
@@ -123,19 +123,19 @@ pub sync_moves : (seen : List ℕ) (log log' : List Made) (made : Made) → made
 sync_moves seen log log' made is pushed = pushed_moves Same seen seen log log' made was refl takes pushed
   where
     was : before made seen ≡ seen
-    was = ap (λ (k : Call). bytes_before k made.tail.items seen) is
+    was = ap (λ (k : DiskCall). bytes_before k made.tail.items seen) is
 
     takes : (x c : List ℕ) → Takes made.call made.failed x c → c ≡ x
-    takes x c took = let passed : Takes Syncing made.failed x c = subst (λ (k : Call). Takes k made.failed x c) is took in passed.1
+    takes x c took = let passed : Takes Syncing made.failed x c = subst (λ (k : DiskCall). Takes k made.failed x c) is took in passed.1
 
-write_before : (at : ℕ) (written tail x : List ℕ) (call : Call) → IsWriteOf at written call → bytes_before call tail x ≡ take at x ++ tail
+write_before : (at : ℕ) (written tail x : List ℕ) (call : DiskCall) → IsWriteOf at written call → bytes_before call tail x ≡ take at x ++ tail
 write_before at written tail x (Writing offset kept) is = ap (λ (k : ℕ). take k x ++ tail) is.0
 write_before at written tail x Length is = absurd is
 write_before at written tail x (Reading offset n) is = absurd is
 write_before at written tail x (Cutting n) is = absurd is
 write_before at written tail x Syncing is = absurd is
 
-write_takes : (at : ℕ) (written x c : List ℕ) (call : Call) (failed : Bool) → IsWriteOf at written call → Takes call failed x c → Torn at (length written) x c
+write_takes : (at : ℕ) (written x c : List ℕ) (call : DiskCall) (failed : Bool) → IsWriteOf at written call → Takes call failed x c → Torn at (length written) x c
 write_takes at written x c (Writing offset kept) failed is took =
     subst (λ (n : ℕ). Torn at n x c) (ap (λ (l : List ℕ). length l) is.1) (subst (λ (k : ℕ). Torn k (length kept.items) x c) is.0 took)
 write_takes at written x c Length failed is took = absurd is
@@ -158,5 +158,5 @@ pub cut_moves : (n : ℕ) (old next new : List ℕ) (log log' : List Made) (made
     → Moves (Shortened n) (facts_of old (reverse log)) (facts_of new (reverse log'))
 cut_moves n old next new log log' made is le was done short pushed =
     pushed_moves (Shortened n) old new log log' made
-    (ap (λ (k : Call). bytes_before k made.tail.items new) is ∙ put_back n old new next made.tail.items le done was)
-    short (λ x c took. subst (λ (k : Call). Takes k made.failed x c) is took) pushed
+    (ap (λ (k : DiskCall). bytes_before k made.tail.items new) is ∙ put_back n old new next made.tail.items le done was)
+    short (λ x c took. subst (λ (k : DiskCall). Takes k made.failed x c) is took) pushed

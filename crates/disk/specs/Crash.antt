@@ -1,7 +1,7 @@
 -- What a crash of a file in memory leaves of the calls since the last sync.
 use Rattle.std.specs.Prelude.{◌≡◌, ℕ, ◌≤◌, ◌<◌, Bool, IsFalse, List, [], ◌∷◌, slice_index_or}
-use Rattle.disk.specs.declared.changes.Call.{Call}
-use Rattle.disk.specs.declared.changes.Call.TheVariants.{Length, Reading, Writing, Cutting, Syncing}
+use Rattle.disk.specs.declared.changes.DiskCall.{DiskCall}
+use Rattle.disk.specs.declared.changes.DiskCall.TheVariants.{Length, Reading, Writing, Cutting, Syncing}
 use Rattle.disk.specs.declared.changes.Made.{Made}
 use Rattle.disk.specs.Memory.{before}
 
@@ -11,7 +11,7 @@ undone [] seen = seen
 undone (made ∷ later) seen = before made (undone later seen)
 
 -- a sync that succeeded
-abbrev pub IsSyncDone : Call → Bool → Type 0
+abbrev pub IsSyncDone : DiskCall → Bool → Type 0
 IsSyncDone Syncing failed = IsFalse failed
 IsSyncDone Length failed = ⊥
 IsSyncDone (Reading at n) failed = ⊥

@@ -1,15 +1,15 @@
 -- What a read gives of a file in memory, and what a crash may leave, from the calls that it keeps.
 use Rattle.std.specs.Prelude.{◌≡◌, ◌⊎◌, ℕ, ◌≤◌, Bool, IsTrue, List, [], ◌∷◌, ◌++◌, length, take, reverse}
 use Rattle.std.proofs.Common.{inl, inr, refl, arith}
-use Rattle.disk.specs.declared.changes.Call.{Call}
-use Rattle.disk.specs.declared.changes.Call.TheVariants.{Length, Reading, Writing, Cutting, Syncing}
+use Rattle.disk.specs.declared.changes.DiskCall.{DiskCall}
+use Rattle.disk.specs.declared.changes.DiskCall.TheVariants.{Length, Reading, Writing, Cutting, Syncing}
 use Rattle.disk.specs.declared.changes.Made.{Made}
 use Rattle.disk.specs.declared.memory.MemoryDisk.{MemoryDisk}
 use Rattle.disk.specs.Calls.{Shortened, Torn}
 use Rattle.disk.specs.Facts.{DiskFacts}
 
 -- the bytes before a call, from those after it and those that stood from its offset on
-abbrev pub bytes_before : Call → List ℕ → List ℕ → List ℕ
+abbrev pub bytes_before : DiskCall → List ℕ → List ℕ → List ℕ
 bytes_before (Writing at bytes) tail after = take at after ++ tail
 bytes_before (Cutting n) tail after = take n after ++ tail
 bytes_before Length tail after = after
@@ -22,7 +22,7 @@ before made after = bytes_before made.call made.tail.items after
 
 -- what a crash may make of a call: of a write its range holds any bytes, a cut happened in part, and behind a sync that
 -- succeeded nothing is left of what was before
-abbrev pub Takes : Call → Bool → List ℕ → List ℕ → Type 0
+abbrev pub Takes : DiskCall → Bool → List ℕ → List ℕ → Type 0
 Takes (Writing at bytes) failed old new = Torn at (length bytes.items) old new
 Takes (Cutting n) failed old new = Shortened n old new
 Takes Length failed old new = new ≡ old
@@ -69,7 +69,7 @@ abbrev pub memory_facts : MemoryDisk → DiskFacts
 memory_facts m = facts_of m.bytes.items (reverse m.calls.items)
 
 -- a call that changes nothing: the length, a read, a sync that fails
-abbrev pub IsQuiet : Call → Bool → Type 0
+abbrev pub IsQuiet : DiskCall → Bool → Type 0
 IsQuiet Length failed = record {}
 IsQuiet (Reading at n) failed = record {}
 IsQuiet (Writing at bytes) failed = ⊥
@@ -77,7 +77,7 @@ IsQuiet (Cutting n) failed = ⊥
 IsQuiet Syncing failed = IsTrue failed
 
 -- the call is a write of these bytes at this offset
-abbrev pub IsWriteOf : ℕ → List ℕ → Call → Type 0
+abbrev pub IsWriteOf : ℕ → List ℕ → DiskCall → Type 0
 IsWriteOf at bytes (Writing offset kept) = (offset ≡ at) × (kept.items ≡ bytes)
 IsWriteOf at bytes Length = ⊥
 IsWriteOf at bytes (Reading offset n) = ⊥

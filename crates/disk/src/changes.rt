@@ -8,7 +8,7 @@ use std::alloc::{AllocError, Global};
 
 /// A call of a disk, with what it was given.
 #[derive(Drop)]
-pub enum Call {
+pub enum DiskCall {
     Length,
     /// From which offset, and how many bytes.
     Reading(usize, usize),
@@ -22,19 +22,19 @@ pub enum Call {
 /// A call that was made, whether it failed, and what stood from its offset on before it.
 #[derive(Drop)]
 pub struct Made {
-    call: Call,
+    call: DiskCall,
     failed: bool,
     tail: Vec<u8>,
 }
 
 impl Made {
-    pub fn call(&self) -> &Call
+    pub fn call(&self) -> &DiskCall
         ensures { result.now ≡ self.now.call }
     {
         &self.call
     }
 
-    pub fn failed(&self) -> bool
+    pub fn has_failed(&self) -> bool
         ensures { result ≡ self.now.failed }
     {
         self.failed
@@ -51,11 +51,13 @@ impl Made {
 pub(crate) fn note(
     calls: &mut Vec<Made>,
     alloc: Global,
-    call: Call,
+    call: DiskCall,
     failed: bool,
 ) -> Result<(), AllocError>
     requires { IsQuiet call failed }
-    ensures stays { (seen : _) → Stays (facts_of seen (reverse calls.old.items)) (facts_of seen (reverse calls.new.items)) }
+    ensures stays { (seen : _)
+        → Stays (facts_of seen (reverse calls.old.items))
+        (facts_of seen (reverse calls.new.items)) }
 {
     let tail = Vec::new(alloc);
     calls.push(Made { call, failed, tail })?;
@@ -64,13 +66,19 @@ pub(crate) fn note(
 
 // Keeps a sync that succeeds.
 pub(crate) fn note_sync(calls: &mut Vec<Made>, alloc: Global) -> Result<(), AllocError>
-    ensures done { (seen : _) → OnOk result (Only seen (facts_of seen (reverse calls.new.items)).leaves) }
-    ensures moves { (seen : _) → Moves Same (facts_of seen (reverse calls.old.items)) (facts_of seen (reverse calls.new.items)) }
-    ensures failed { (seen : _) → OnErr result (Stays (facts_of seen (reverse calls.old.items)) (facts_of seen (reverse calls.new.items))) }
+    ensures done { (seen : _)
+        → OnOk result (Only seen (facts_of seen (reverse calls.new.items)).leaves) }
+    ensures moves { (seen : _)
+        → Moves Same (facts_of seen (reverse calls.old.items))
+        (facts_of seen (reverse calls.new.items)) }
+    ensures failed { (seen : _)
+        → OnErr result
+        (Stays (facts_of seen (reverse calls.old.items))
+        (facts_of seen (reverse calls.new.items))) }
 {
     let tail = Vec::new(alloc);
     calls.push(Made {
-        call: Call::Syncing,
+        call: DiskCall::Syncing,
         failed: false,
         tail,
     })?;
@@ -88,7 +96,8 @@ fn replace_tail(
     requires { at ≤ length bytes.old.items }
     ensures bytes { OnOk result (bytes.new.items ≡ take at bytes.old.items ++ next.items) }
     ensures calls { OnOk result (calls.new.items ≡ calls.old.items ++ made ∷ []) }
-    ensures unchanged { OnErr result ((bytes.new.items ≡ bytes.old.items) × (calls.new.items ≡ calls.old.items)) }
+    ensures unchanged { OnErr result
+        ((bytes.new.items ≡ bytes.old.items) × (calls.new.items ≡ calls.old.items)) }
 {
     bytes.reserve(next.len())?;
     calls.push(made)?;
@@ -109,14 +118,15 @@ fn write_of(
     requires { (at ≤ length old.now) × (count ≤ length written.now) }
     ensures call { IfOk result (λ it. IsWriteOf at written.now it.0.call) }
     ensures tail { IfOk result (λ it. it.0.tail.items ≡ drop at old.now) }
-    ensures next { IfOk result (λ it. it.1.items ≡ take count written.now ++ drop (at + count) old.now) }
+    ensures next { IfOk result
+        (λ it. it.1.items ≡ take count written.now ++ drop (at + count) old.now) }
 {
     let tail = old[at..].to_vec(alloc)?;
     let mut next = written[..count].to_vec(alloc)?;
     if count < tail.len() {
         next.extend_from_slice(&old[at + count..])?;
     }
-    let call = Call::Writing(at, written.to_vec(alloc)?);
+    let call = DiskCall::Writing(at, written.to_vec(alloc)?);
     Ok((Made { call, failed, tail }, next))
 }
 
@@ -132,9 +142,12 @@ pub(crate) fn apply_write(
 ) -> Result<(), AllocError>
     requires { (at ≤ length bytes.old.items) × (count ≤ length written.now) }
     ensures done { OnOk result (count ≡ length written.now
-        → bytes.new.items ≡ take at bytes.old.items ++ written.now ++ drop (at + length written.now) bytes.old.items) }
+        → bytes.new.items ≡ take at bytes.old.items ++ written.now
+        ++ drop (at + length written.now) bytes.old.items) }
     ensures torn { Torn at (length written.now) bytes.old.items bytes.new.items }
-    ensures moves { Moves (Torn at (length written.now)) (facts_of bytes.old.items (reverse calls.old.items)) (facts_of bytes.new.items (reverse calls.new.items)) }
+    ensures moves { Moves (Torn at (length written.now))
+        (facts_of bytes.old.items (reverse calls.old.items))
+        (facts_of bytes.new.items (reverse calls.new.items)) }
 {
     let (made, next) = write_of(alloc, bytes, at, written, count, failed)?;
     replace_tail(bytes, calls, at, made, next)?;
@@ -150,13 +163,13 @@ fn cut_of(
     failed: bool,
 ) -> Result<(Made, Vec<u8>), AllocError>
     requires { (len ≤ end) × (end ≤ length old.now) }
-    ensures call { IfOk result (λ it. it.0.call ≡ Call.Cutting len) }
+    ensures call { IfOk result (λ it. it.0.call ≡ DiskCall.Cutting len) }
     ensures tail { IfOk result (λ it. it.0.tail.items ≡ drop len old.now) }
     ensures next { IfOk result (λ it. it.1.items ≡ take (end - len) (drop len old.now)) }
 {
     let tail = old[len..].to_vec(alloc)?;
     let next = old[len..end].to_vec(alloc)?;
-    let call = Call::Cutting(len);
+    let call = DiskCall::Cutting(len);
     Ok((Made { call, failed, tail }, next))
 }
 
@@ -172,7 +185,8 @@ pub(crate) fn apply_cut(
     requires { (len ≤ end) × (end ≤ length bytes.old.items) }
     ensures done { OnOk result (bytes.new.items ≡ take end bytes.old.items) }
     ensures cut { Shortened len bytes.old.items bytes.new.items }
-    ensures moves { Moves (Shortened len) (facts_of bytes.old.items (reverse calls.old.items)) (facts_of bytes.new.items (reverse calls.new.items)) }
+    ensures moves { Moves (Shortened len) (facts_of bytes.old.items (reverse calls.old.items))
+        (facts_of bytes.new.items (reverse calls.new.items)) }
 {
     let (made, next) = cut_of(alloc, bytes, len, end, failed)?;
     replace_tail(bytes, calls, len, made, next)?;

@@ -4,7 +4,7 @@ ghost use Rattle.disk.specs.Calls.{Shortened, Torn};
 ghost use Rattle.disk.specs.Crash.{IsSyncDone, NoSyncDone, undone};
 ghost use Rattle.disk.specs.Memory.{before, Leaves, Takes};
 
-use crate::changes::{Call, Made};
+use crate::changes::{DiskCall, Made};
 use crate::memory::MemoryDisk;
 use std::alloc::{AllocError, Global};
 
@@ -25,14 +25,16 @@ impl MemoryDisk {
     ghost use Rattle.disk.specs.Memory.{memory_facts};
 
     /// What a crash leaves at the moment at which so many calls had been made: those behind it never were.
-    pub fn left(
+    pub fn bytes_left(
         &self,
         alloc: Global,
         moment: usize,
         unsynced: Unsynced,
     ) -> Result<Vec<u8>, AllocError>
-        ensures since { moment ≤ (memory_facts self.now).moment → IfOk result (λ left. (memory_facts self.now).since moment left.items) }
-        ensures now { (memory_facts self.now).moment ≤ moment → IfOk result (λ left. (memory_facts self.now).leaves left.items) }
+        ensures since { moment ≤ (memory_facts self.now).moment
+            → IfOk result (λ left. (memory_facts self.now).since moment left.items) }
+        ensures now { (memory_facts self.now).moment ≤ moment
+            → IfOk result (λ left. (memory_facts self.now).leaves left.items) }
     {
         let calls = self.calls();
         let to = moment.min(calls.len());
@@ -64,7 +66,7 @@ fn is_sync_done(made: &Made) -> bool
     ensures { IsTrue result ↔ IsSyncDone made.now.call made.now.failed }
 {
     match made.call() {
-        Call::Syncing => !made.failed(),
+        DiskCall::Syncing => !made.has_failed(),
         _ => false,
     }
 }
@@ -74,8 +76,8 @@ fn undo(left: &mut Vec<u8>, made: &Made) -> Result<(), AllocError>
     ensures { OnOk result (left.new.items ≡ before made.now left.old.items) }
 {
     match made.call() {
-        Call::Writing(at, _) => left.truncate(*at),
-        Call::Cutting(len) => left.truncate(*len),
+        DiskCall::Writing(at, _) => left.truncate(*at),
+        DiskCall::Cutting(len) => left.truncate(*len),
         _ => return Ok(()),
     }
     left.extend_from_slice(made.tail())
@@ -112,7 +114,8 @@ fn splice(
     with: &[u8],
     beyond: &[u8],
 ) -> Result<(), AllocError>
-    ensures { (n : ℕ) → length with.now ≤ n → OnOk result (Torn at n left.old.items left.new.items) }
+    ensures { (n : ℕ) → length with.now ≤ n
+        → OnOk result (Torn at n left.old.items left.new.items) }
 {
     let rest = rest_of(alloc, left, at, with.len())?;
     left.truncate(at);
@@ -165,8 +168,8 @@ fn redo(
     ensures { OnOk result (Takes made.now.call made.now.failed left.old.items left.new.items) }
 {
     match made.call() {
-        Call::Writing(at, bytes) => redo_write(left, alloc, *at, bytes, unsynced),
-        Call::Cutting(len) => {
+        DiskCall::Writing(at, bytes) => redo_write(left, alloc, *at, bytes, unsynced),
+        DiskCall::Cutting(len) => {
             redo_cut(left, *len, unsynced);
             Ok(())
         }

@@ -32,7 +32,7 @@ impl<F> FileDisk<F> {
 }
 
 // Counts a call that failed.
-fn counted<T>(failures: &mut u64, answer: io::Result<T>) -> Result<T, Failed>
+fn count_failure<T>(failures: &mut u64, answer: io::Result<T>) -> Result<T, Failed>
     ensures { Counts result failures.old failures.new }
 {
     match answer {
@@ -61,22 +61,22 @@ impl<F: FileExt + OpenFile> Disk for FileDisk<F> {
 
     fn len(&mut self) -> Result<usize, Failed> {
         let answer = length_of(&self.file);
-        counted(&mut self.failures, answer)
+        count_failure(&mut self.failures, answer)
     }
 
     fn read(&mut self, at: usize, buffer: &mut [u8]) -> Result<(), Failed> {
         let answer = self.file.read_exact_at(buffer, at as u64);
-        counted(&mut self.failures, answer)
+        count_failure(&mut self.failures, answer)
     }
 
     fn write_at(&mut self, at: usize, bytes: &[u8]) -> Result<(), Failed> {
         let answer = self.file.write_all_at(bytes, at as u64);
-        counted(&mut self.failures, answer)
+        count_failure(&mut self.failures, answer)
     }
 
     fn cut(&mut self, len: usize) -> Result<(), Failed> {
         let answer = self.file.set_len(len as u64);
-        counted(&mut self.failures, answer)
+        count_failure(&mut self.failures, answer)
     }
 
     fn sync(&mut self) -> Result<(), Failed> {
@@ -86,6 +86,6 @@ impl<F: FileExt + OpenFile> Disk for FileDisk<F> {
             self.file.sync_all()
         };
         self.sync_failed = answer.is_err();
-        counted(&mut self.failures, answer)
+        count_failure(&mut self.failures, answer)
     }
 }

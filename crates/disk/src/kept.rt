@@ -8,10 +8,14 @@ use crate::{Disk, Failed};
 /// Writes the bytes at this offset. At `Ok` they are on the disk.
 pub fn put<D: Disk>(disk: &mut D, at: usize, bytes: &[u8]) -> Result<(), Failed>
     ensures honest { D.honest disk.new ↔ D.honest disk.old }
-    ensures any_moment { D.honest disk.old → (file : List ℕ) → at ≤ length file → Synced file (D.facts disk.old)
-        → LeavesOnly (λ c. (c ≡ file) ⊎ Torn at (length bytes.now) file c) (D.facts disk.old) (D.facts disk.new) }
-    ensures done { OnOk result (D.honest disk.old → (file : List ℕ) → at ≤ length file → Synced file (D.facts disk.old)
-        → Synced (take at file ++ bytes.now ++ drop (at + length bytes.now) file) (D.facts disk.new)) }
+    ensures any_moment { D.honest disk.old → (file : List ℕ) → at ≤ length file
+        → Synced file (D.facts disk.old)
+        → LeavesOnly (λ c. (c ≡ file) ⊎ Torn at (length bytes.now) file c) (D.facts disk.old)
+        (D.facts disk.new) }
+    ensures done { OnOk result
+        (D.honest disk.old → (file : List ℕ) → at ≤ length file → Synced file (D.facts disk.old)
+        → Synced (take at file ++ bytes.now ++ drop (at + length bytes.now) file)
+        (D.facts disk.new)) }
     ensures count { Counts result (D.faults disk.old) (D.faults disk.new) }
 {
     disk.write_at(at, bytes)?;
@@ -23,9 +27,12 @@ pub fn put<D: Disk>(disk: &mut D, at: usize, bytes: &[u8]) -> Result<(), Failed>
 /// Cuts the file to this length. At `Ok` the cut is on the disk.
 pub fn shorten<D: Disk>(disk: &mut D, len: usize) -> Result<(), Failed>
     ensures honest { D.honest disk.new ↔ D.honest disk.old }
-    ensures any_moment { D.honest disk.old → (file : List ℕ) → len ≤ length file → Synced file (D.facts disk.old)
-        → LeavesOnly (λ c. (c ≡ file) ⊎ Shortened len file c) (D.facts disk.old) (D.facts disk.new) }
-    ensures done { OnOk result (D.honest disk.old → (file : List ℕ) → len ≤ length file → Synced file (D.facts disk.old)
+    ensures any_moment { D.honest disk.old → (file : List ℕ) → len ≤ length file
+        → Synced file (D.facts disk.old)
+        → LeavesOnly (λ c. (c ≡ file) ⊎ Shortened len file c) (D.facts disk.old)
+        (D.facts disk.new) }
+    ensures done { OnOk result
+        (D.honest disk.old → (file : List ℕ) → len ≤ length file → Synced file (D.facts disk.old)
         → Synced (take len file) (D.facts disk.new)) }
     ensures count { Counts result (D.faults disk.old) (D.faults disk.new) }
 {
@@ -38,8 +45,10 @@ pub fn shorten<D: Disk>(disk: &mut D, len: usize) -> Result<(), Failed>
 /// Puts on the disk what a read gives.
 pub fn keep<D: Disk>(disk: &mut D) -> Result<(), Failed>
     ensures honest { D.honest disk.new ↔ D.honest disk.old }
-    ensures any_moment { D.honest disk.old → LeavesOnly (D.facts disk.old).leaves (D.facts disk.old) (D.facts disk.new) }
-    ensures done { OnOk result (D.honest disk.old → Synced (D.facts disk.old).seen (D.facts disk.new)) }
+    ensures any_moment { D.honest disk.old
+        → LeavesOnly (D.facts disk.old).leaves (D.facts disk.old) (D.facts disk.new) }
+    ensures done { OnOk result
+        (D.honest disk.old → Synced (D.facts disk.old).seen (D.facts disk.new)) }
     ensures count { Counts result (D.faults disk.old) (D.faults disk.new) }
 {
     disk.sync()?;

@@ -10,7 +10,7 @@ mod file;
 mod kept;
 mod memory;
 
-pub use changes::{Call, Made};
+pub use changes::{DiskCall, Made};
 pub use crash::Unsynced;
 pub use disk::{Disk, Failed};
 pub use file::FileDisk;

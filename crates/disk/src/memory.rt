@@ -2,7 +2,7 @@
 ghost use Rattle.std.specs.Prelude.{◌≡◌, ◌≤◌};
 ghost use Rattle.disk.specs.Facts.{Synced};
 
-use crate::changes::{Call, Made, apply_cut, apply_write, note, note_sync};
+use crate::changes::{DiskCall, Made, apply_cut, apply_write, note, note_sync};
 use crate::{Disk, Failed};
 use std::alloc::Global;
 
@@ -116,7 +116,7 @@ impl Disk for MemoryDisk {
 
     fn len(&mut self) -> Result<usize, Failed> {
         let fails = self.failing().is_some();
-        let noted = note(&mut self.calls, self.alloc, Call::Length, fails);
+        let noted = note(&mut self.calls, self.alloc, DiskCall::Length, fails);
         if fails || noted.is_err() {
             self.failures = self.failures.saturating_add(1);
             return Err(Failed);
@@ -130,7 +130,7 @@ impl Disk for MemoryDisk {
         let noted = note(
             &mut self.calls,
             self.alloc,
-            Call::Reading(at, buffer.len()),
+            DiskCall::Reading(at, buffer.len()),
             fails,
         );
         if fails || noted.is_err() {
@@ -190,7 +190,7 @@ impl Disk for MemoryDisk {
 
     fn sync(&mut self) -> Result<(), Failed> {
         if self.failing().is_some() {
-            let _ = note(&mut self.calls, self.alloc, Call::Syncing, true);
+            let _ = note(&mut self.calls, self.alloc, DiskCall::Syncing, true);
             self.failures = self.failures.saturating_add(1);
             return Err(Failed);
         }

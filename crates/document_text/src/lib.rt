@@ -21,8 +21,10 @@ fn no_member(error: &Error) -> Result<Option<Vec<u8>>, AllocError>
 }
 
 // The bytes of the text, if there is one. Memory alone can fail.
-fn copied(alloc: Global, text: Option<&str>) -> Result<Option<Vec<u8>>, AllocError>
-    ensures { IfOk result (λ copy. option_map (λ bytes. bytes.items) copy ≡ option_map (λ words. words.now) text.entry) }
+fn copy_of(alloc: Global, text: Option<&str>) -> Result<Option<Vec<u8>>, AllocError>
+    ensures { IfOk result
+        (λ copy. option_map (λ bytes. bytes.items) copy
+        ≡ option_map (λ words. words.now) text.entry) }
 {
     match text {
         Some(text) => Ok(Some(text.as_bytes().to_vec(alloc)?)),
@@ -32,17 +34,20 @@ fn copied(alloc: Global, text: Option<&str>) -> Result<Option<Vec<u8>>, AllocErr
 
 // The string at `text` of the JSON object that the text is, where it is one and has such. Memory alone can fail.
 fn member_of(alloc: Global, text: &str) -> Result<Option<Vec<u8>>, AllocError>
-    ensures { IfOk result (λ member. option_map (λ bytes. bytes.items) member ≡ text_member text.now) }
+    ensures { IfOk result
+        (λ member. option_map (λ bytes. bytes.items) member ≡ text_member text.now) }
 {
     match Value::from_str(alloc, text) {
-        Ok(value) => copied(alloc, value.get("text").and_then(Value::as_str)),
+        Ok(value) => copy_of(alloc, value.get("text").and_then(Value::as_str)),
         Err(error) => no_member(&error),
     }
 }
 
 // The same of bytes, which hold nothing else where they aren't UTF-8.
 fn member_in(alloc: Global, bytes: &[u8]) -> Result<Option<Vec<u8>>, AllocError>
-    ensures { IfOk result (λ member. unwrap_or (option_map (λ text. text.items) member) bytes.now ≡ text_in bytes.now) }
+    ensures { IfOk result
+        (λ member. unwrap_or (option_map (λ text. text.items) member) bytes.now
+        ≡ text_in bytes.now) }
 {
     match str::from_utf8(bytes) {
         Ok(text) => member_of(alloc, text),

@@ -27,12 +27,12 @@ pub others_are : (u : Universe) (number other : ℕ) (pkg : Pkg) (R : Pkg → Pk
 others_are u number other pkg R is = has_pkg u number pkg (λ p. PairHas u other (R p)) is
 
 -- the premises of each of a list of others
-pub each_other : (why : Against) (number : ℕ) (others : List ℕ) (found : Premise)
-    → Any (λ other. found ≡ premise_against why number other) others ↔ IsAgainstEach why number others found
-each_other why number others found = (
-  λ some. Any-elim (λ other. found ≡ premise_against why number other) others (IsAgainstEach why number others found)
+pub each_other : (why : Against) (number : ℕ) (others : List ℕ) (reason : Premise)
+    → Any (λ other. reason ≡ premise_against why number other) others ↔ IsAgainstEach why number others reason
+each_other why number others reason = (
+  λ some. Any-elim (λ other. reason ≡ premise_against why number other) others (IsAgainstEach why number others reason)
       (λ other within same. (other, within, same)) some,
-  λ (other, within, same). Any-intro (λ one. found ≡ premise_against why number one) others other within same,
+  λ (other, within, same). Any-intro (λ one. reason ≡ premise_against why number one) others other within same,
 )
 
 -- that one of two pairs isn't selected is the clause of each kind
@@ -51,32 +51,32 @@ either_list u why number other literals slice made is same list =
 
 -- where the others are just those of premises, so are the premises
 pub each_premise : (u : Universe) (why : Against) (number : ℕ) (others slice : List ℕ) → slice ≡ others
-    → ((other : ℕ) → Contains others other ↔ IsPremise u (premise_against why number other)) → (found : Premise)
-    → IsAgainstEach why number slice found ↔ (IsPremise u found × IsAgainstBy why number found)
-each_premise u why number others slice is all found =
-    let Over : List ℕ → Type 0 = λ xs. IsAgainstEach why number xs found ↔ (IsPremise u found × IsAgainstBy why number found) in
+    → ((other : ℕ) → Contains others other ↔ IsPremise u (premise_against why number other)) → (reason : Premise)
+    → IsAgainstEach why number slice reason ↔ (IsPremise u reason × IsAgainstBy why number reason)
+each_premise u why number others slice is all reason =
+    let Over : List ℕ → Type 0 = λ xs. IsAgainstEach why number xs reason ↔ (IsPremise u reason × IsAgainstBy why number reason) in
     subst Over (sym is) (
       λ (other, within, same). (subst (IsPremise u) (sym same) ((all other).0 within), (other, same)),
       λ (so, (other, same)). (other, (all other).1 (subst (IsPremise u) same so), same),
     )
 
 -- the three kinds of premises are what the pair is against
-pub three_kinds : (u : Universe) (number : ℕ) (found : Premise)
-    → (((IsPremise u found × IsAgainstBy against.Same number found) ⊎ (IsPremise u found × IsAgainstBy against.Conflicts number found))
-    ⊎ (IsPremise u found × IsAgainstBy against.Breaks number found))
-    ↔ (IsPremise u found × IsAgainstOf number found)
-three_kinds u number found = (to, from found)
+pub three_kinds : (u : Universe) (number : ℕ) (reason : Premise)
+    → (((IsPremise u reason × IsAgainstBy against.Same number reason) ⊎ (IsPremise u reason × IsAgainstBy against.Conflicts number reason))
+    ⊎ (IsPremise u reason × IsAgainstBy against.Breaks number reason))
+    ↔ (IsPremise u reason × IsAgainstOf number reason)
+three_kinds u number reason = (to, from reason)
   where
     by : (why : Against) (f : Premise) → IsPremise u f × IsAgainstBy why number f → IsPremise u f × IsAgainstOf number f
     by against.Same f (so, (other, same)) = (so, subst (IsAgainstOf number) (sym same) refl)
     by against.Conflicts f (so, (other, same)) = (so, subst (IsAgainstOf number) (sym same) refl)
     by against.Breaks f (so, (other, same)) = (so, subst (IsAgainstOf number) (sym same) refl)
 
-    to : ((IsPremise u found × IsAgainstBy against.Same number found) ⊎ (IsPremise u found × IsAgainstBy against.Conflicts number found))
-        ⊎ (IsPremise u found × IsAgainstBy against.Breaks number found) → IsPremise u found × IsAgainstOf number found
-    to (inl (inl so)) = by against.Same found so
-    to (inl (inr so)) = by against.Conflicts found so
-    to (inr so) = by against.Breaks found so
+    to : ((IsPremise u reason × IsAgainstBy against.Same number reason) ⊎ (IsPremise u reason × IsAgainstBy against.Conflicts number reason))
+        ⊎ (IsPremise u reason × IsAgainstBy against.Breaks number reason) → IsPremise u reason × IsAgainstOf number reason
+    to (inl (inl so)) = by against.Same reason so
+    to (inl (inr so)) = by against.Conflicts reason so
+    to (inr so) = by against.Breaks reason so
 
     from : (f : Premise) → IsPremise u f × IsAgainstOf number f
         → ((IsPremise u f × IsAgainstBy against.Same number f) ⊎ (IsPremise u f × IsAgainstBy against.Conflicts number f))
@@ -96,7 +96,7 @@ three_kinds u number found = (to, from found)
     from (premise.Keep name) (so, of) = absurd of
 
 -- a premise of what a pair is against speaks of that pair
-pub against_has : (u : Universe) (number : ℕ) (found : Premise) → IsPremise u found → IsAgainstOf number found → PairHas u number (λ _. ⊤)
+pub against_has : (u : Universe) (number : ℕ) (reason : Premise) → IsPremise u reason → IsAgainstOf number reason → PairHas u number (λ _. ⊤)
 against_has u number (premise.Same pair other) (less, (here, there, has)) of =
     let Has : ℕ → Type 0 = λ n. PairHas u n (λ _. ⊤) in subst Has of (here, there, tt)
 against_has u number (premise.PreDepends pair clause) so of = absurd of
@@ -111,18 +111,18 @@ against_has u number (premise.Hold pair) so of = absurd of
 against_has u number (premise.Essential name) so of = absurd of
 against_has u number (premise.Keep name) so of = absurd of
 
-pub against_none : (u : Universe) (place : ℕ) → None ≡ slice_get (packages_of u.pairs) place → (found : Premise)
-    → ¬ (IsPremise u found × IsAgainstOf (place + 1) found)
-against_none u place is found (so, of) = none_in u place (λ _. ⊤) is (against_has u (place + 1) found so of)
+pub against_none : (u : Universe) (place : ℕ) → None ≡ slice_get (packages_of u.pairs) place → (reason : Premise)
+    → ¬ (IsPremise u reason × IsAgainstOf (place + 1) reason)
+against_none u place is reason (so, of) = none_in u place (λ _. ⊤) is (against_has u (place + 1) reason so of)
 
 -- what the pairs at all places are against is what pairs are against
-pub all_pairs_against : (u : Universe) (found : Premise)
-    → IsOfFirst (λ place one. IsPremise u one × IsAgainstOf (place + 1) one) (length u.pairs) found ↔ (IsPremise u found × IsAgainst found)
-all_pairs_against u found = (
+pub all_pairs_against : (u : Universe) (reason : Premise)
+    → IsOfFirst (λ place one. IsPremise u one × IsAgainstOf (place + 1) one) (length u.pairs) reason ↔ (IsPremise u reason × IsAgainst reason)
+all_pairs_against u reason = (
   λ (place, within, (so, of)). (so, (place + 1, of)),
   λ (so, (number, of)).
-      let (place, next, within) = within_pairs u number (λ _. ⊤) (against_has u number found so of) in
-      let Of : ℕ → Type 0 = λ n. IsAgainstOf n found in
+      let (place, next, within) = within_pairs u number (λ _. ⊤) (against_has u number reason so of) in
+      let Of : ℕ → Type 0 = λ n. IsAgainstOf n reason in
       (place, within, (so, subst Of next of)),
 )
 
@@ -146,7 +146,7 @@ same_premises u number pkg name why others at called is are other =
     let Why : Against → Type 0 = λ w. Contains others other ↔ IsPremise u (premise_against w number other) in
     let Name : List ℕ → Type 0 = λ n. Contains others other ↔ ((number < other) × PairHas u other (λ p. p.name ≡ n)) in
     let here = subst Name called (are other) in
-    let all = others_are u number other pkg (λ p found. found.name ≡ p.name) at in
+    let all = others_are u number other pkg (λ p other_pkg. other_pkg.name ≡ p.name) at in
     subst Why (sym is) (
       λ within. let both = here.0 within in (both.0, all.0 both.1),
       λ (less, pairs). here.1 (less, all.1 pairs),

@@ -13,24 +13,24 @@ use Rattle.refutation.specs.Premise.{IsInPremise}
 use Rattle.refutation.specs.declared.line.Premise.{Premise}
 use Rattle.refutation.specs.declared.literal.Literal.{Literal}
 use Rattle.refutation.specs.declared.literal.Literal.TheVariants as literal
-use Rattle.encode.specs.Encoding.{Encoding, IsClauseOf, IsEncoding, signed}
+use Rattle.encode.specs.Encoding.{Encoding, IsClauseOf, IsEncoding, signed_number}
 use Rattle.refutation.specs.Selection.{selects}
 use Rattle.refutation.proofs.SelectionLemmas.{selects_contained, selects_not}
 
 -- the clause of a premise
 pub clause_of_premise : (u : Universe) (premises : List Premise) (clauses : List (List ℤ)) → AllZip (IsClauseOf u) premises clauses
-    → (found : Premise) → Contains premises found → (clause : List ℤ) × Contains clauses clause × IsClauseOf u found clause
-clause_of_premise u [] [] all found within = absurd (Contains-nil found within)
-clause_of_premise u [] (clause ∷ clauses) all found within = absurd all
-clause_of_premise u (premise ∷ premises) [] all found within = absurd all
-clause_of_premise u (premise ∷ premises) (clause ∷ clauses) all found within = elim (Contains-cons premise premises found within) [
+    → (reason : Premise) → Contains premises reason → (clause : List ℤ) × Contains clauses clause × IsClauseOf u reason clause
+clause_of_premise u [] [] all reason within = absurd (Contains-nil reason within)
+clause_of_premise u [] (clause ∷ clauses) all reason within = absurd all
+clause_of_premise u (premise ∷ premises) [] all reason within = absurd all
+clause_of_premise u (premise ∷ premises) (clause ∷ clauses) all reason within = elim (Contains-cons premise premises reason within) [
   | inl same ↦ let P : Premise → Type 0 = λ p. IsClauseOf u p clause in (clause, Contains-head clause clauses, subst P same all.0)
-  | inr later ↦ let (rest, there, of) = clause_of_premise u premises clauses all.1 found later in (rest, Contains-rest clause clauses rest there, of)
+  | inr later ↦ let (rest, there, of) = clause_of_premise u premises clauses all.1 reason later in (rest, Contains-rest clause clauses rest there, of)
 ]
 
 -- a literal is true of the test of a selection where it is true of the selection, in which 0 isn't
-literal_true : (selection : List ℕ) → All (λ number. 1 ≤ number) selection → (found : Literal) → IsTrueLiteral selection (signed found)
-    → IsTrueOf (selects selection) found
+literal_true : (selection : List ℕ) → All (λ number. 1 ≤ number) selection → (item : Literal) → IsTrueLiteral selection (signed_number item)
+    → IsTrueOf (selects selection) item
 literal_true selection positive (literal.Selected number) is = selects_contained selection number is
 literal_true selection positive (literal.Unselected zero) is =
     let zero_in : 1 ≤ 0 = All-contains (λ number. 1 ≤ number) selection 0 positive is in absurd (let e : 1 ≤ 0 = zero_in in omega arith)
@@ -44,10 +44,10 @@ unfolding IsClauseOf
 all_premises_true u encoding selection is positive makes premise so =
     let (clause, within, (literals, list, same)) =
     clause_of_premise u encoding.premises encoding.clauses.clauses is.clauses premise (is.every premise so) in
-    let made : Any (IsTrueLiteral selection) (map signed literals) =
+    let made : Any (IsTrueLiteral selection) (map signed_number literals) =
     subst (IsTrueClause selection) same (All-contains (IsTrueClause selection) encoding.clauses.clauses clause makes within) in
-    Any-elim (IsTrueLiteral selection) (map signed literals) (IsClauseTrue (selects selection) (IsInPremise u premise))
+    Any-elim (IsTrueLiteral selection) (map signed_number literals) (IsClauseTrue (selects selection) (IsInPremise u premise))
     (λ number there true_of.
-    let (found, in_list, sign) = Contains-map signed literals number there in
+    let (item, in_list, sign) = Contains-map signed_number literals number there in
     let True : ℤ → Type 0 = λ z. IsTrueLiteral selection z in
-    (found, (list found).0 in_list, literal_true selection positive found (subst True (sym sign) true_of))) made
+    (item, (list item).0 in_list, literal_true selection positive item (subst True (sym sign) true_of))) made

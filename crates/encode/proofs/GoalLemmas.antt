@@ -34,8 +34,8 @@ goal_has u number asked P is = (
 pub asked_list : (u : Universe) (number : ℕ) (asked : Goal) (P : Pkg → Type 0) → item_at u.goals number ≡ Some asked
     → ((pkg : Pkg) → P pkg ↔ IsAskedBy u asked pkg) → (literals : List Literal) → IsListOf (Selects u P) literals
     → IsListOf (IsInPremise u (premise.Goal number)) literals
-asked_list u number asked P is alike literals all found =
-    let same = selects found in (λ within. same.0 ((all found).0 within), λ so. (all found).1 (same.1 so))
+asked_list u number asked P is alike literals all item =
+    let same = selects item in (λ within. same.0 ((all item).0 within), λ so. (all item).1 (same.1 so))
   where
     selects : (f : Literal) → Selects u P f ↔ Selects u (λ pkg. HasAt u.goals number (λ of. IsAskedBy u of pkg)) f
     selects (literal.Selected pair) = (
@@ -45,11 +45,11 @@ asked_list u number asked P is alike literals all found =
     selects (literal.Unselected pair) = (λ no. no, λ no. no)
 
 -- the premise of a goal that asks for a member is the only one of its number
-pub asked_only : (u : Universe) (number : ℕ) → HasAt u.goals number AsksForMember → (found : Premise)
-    → (found ≡ premise.Goal number) ↔ (IsPremise u found × IsOfGoal number found)
-asked_only u number asks found = (
+pub asked_only : (u : Universe) (number : ℕ) → HasAt u.goals number AsksForMember → (reason : Premise)
+    → (reason ≡ premise.Goal number) ↔ (IsPremise u reason × IsOfGoal number reason)
+asked_only u number asks reason = (
   λ same. (subst (IsPremise u) (sym same) asks, subst (IsOfGoal number) (sym same) refl),
-  λ both. from found both.0 both.1,
+  λ both. from reason both.0 both.1,
 )
   where
     asks_not : (asked : Goal) → AsksForMember asked → (pair : ℕ) → PairHas u pair (SpeaksOf u asked) → ⊥
@@ -77,28 +77,28 @@ asked_only u number asks found = (
 
 -- what a goal says of a pair is what the goal at its number says
 pub said_list : (u : Universe) (number : ℕ) (asked : Goal) (is_selected : Bool) → item_at u.goals number ≡ Some asked
-    → ((pair : ℕ) (found : Literal) → IsSaidBy asked pair found ↔ (found ≡ said is_selected pair))
-    → (pair : ℕ) (found : Literal) → IsInPremise u (premise.GoalOn number pair) found ↔ (found ≡ said is_selected pair)
-said_list u number asked is_selected is says pair found =
-    let has = goal_has u number asked (λ of. IsSaidBy of pair found) is in (
-      λ so. (says pair found).0 (has.0 so),
-      λ same. has.1 ((says pair found).1 same),
+    → ((pair : ℕ) (item : Literal) → IsSaidBy asked pair item ↔ (item ≡ said is_selected pair))
+    → (pair : ℕ) (item : Literal) → IsInPremise u (premise.GoalOn number pair) item ↔ (item ≡ said is_selected pair)
+said_list u number asked is_selected is says pair item =
+    let has = goal_has u number asked (λ of. IsSaidBy of pair item) is in (
+      λ so. (says pair item).0 (has.0 so),
+      λ same. has.1 ((says pair item).1 same),
     )
 
 -- the premises of each of a list of pairs
-pub on_each : (number : ℕ) (pairs : List ℕ) (found : Premise)
-    → Any (λ pair. found ≡ premise.GoalOn number pair) pairs ↔ IsOnEach number pairs found
-on_each number pairs found = (
-  λ some. Any-elim (λ pair. found ≡ premise.GoalOn number pair) pairs (IsOnEach number pairs found) (λ pair within same. (pair, within, same)) some,
-  λ (pair, within, same). Any-intro (λ one. found ≡ premise.GoalOn number one) pairs pair within same,
+pub on_each : (number : ℕ) (pairs : List ℕ) (reason : Premise)
+    → Any (λ pair. reason ≡ premise.GoalOn number pair) pairs ↔ IsOnEach number pairs reason
+on_each number pairs reason = (
+  λ some. Any-elim (λ pair. reason ≡ premise.GoalOn number pair) pairs (IsOnEach number pairs reason) (λ pair within same. (pair, within, same)) some,
+  λ (pair, within, same). Any-intro (λ one. reason ≡ premise.GoalOn number one) pairs pair within same,
 )
 
 -- the premises of a goal that speaks of pairs by themselves are those of these pairs
-on_only : (u : Universe) (number : ℕ) (asked : Goal) → item_at u.goals number ≡ Some asked → (¬ AsksForMember asked) → (found : Premise)
-    → (IsPremise u found × IsOfGoal number found) ↔ ((pair : ℕ) × PairHas u pair (SpeaksOf u asked) × (found ≡ premise.GoalOn number pair))
-on_only u number asked is asks_not found = (λ both. from found both.0 both.1, to)
+on_only : (u : Universe) (number : ℕ) (asked : Goal) → item_at u.goals number ≡ Some asked → (¬ AsksForMember asked) → (reason : Premise)
+    → (IsPremise u reason × IsOfGoal number reason) ↔ ((pair : ℕ) × PairHas u pair (SpeaksOf u asked) × (reason ≡ premise.GoalOn number pair))
+on_only u number asked is asks_not reason = (λ both. from reason both.0 both.1, to)
   where
-    to : (pair : ℕ) × PairHas u pair (SpeaksOf u asked) × (found ≡ premise.GoalOn number pair) → IsPremise u found × IsOfGoal number found
+    to : (pair : ℕ) × PairHas u pair (SpeaksOf u asked) × (reason ≡ premise.GoalOn number pair) → IsPremise u reason × IsOfGoal number reason
     to (pair, has, same) = (subst (IsPremise u) (sym same) (asked, is, has), subst (IsOfGoal number) (sym same) refl)
 
     from : (f : Premise) → IsPremise u f → IsOfGoal number f
@@ -112,60 +112,60 @@ on_only u number asked is asks_not found = (λ both. from found both.0 both.1, t
         let Of : ℕ → Type 0 = λ n. HasAt u.goals n AsksForMember in
         absurd (asks_not ((goal_has u number asked AsksForMember is).0 (subst Of of so)))
     from (premise.GoalOn one pair) so of =
-        let On : ℕ → Type 0 = λ n. HasAt u.goals n (λ found. PairHas u pair (SpeaksOf u found)) in
+        let On : ℕ → Type 0 = λ n. HasAt u.goals n (λ it. PairHas u pair (SpeaksOf u it)) in
         let Made : ℕ → Type 0 = λ n. premise.GoalOn one pair ≡ premise.GoalOn n pair in
-        (pair, (goal_has u number asked (λ found. PairHas u pair (SpeaksOf u found)) is).0 (subst On of so), subst Made of refl)
+        (pair, (goal_has u number asked (λ it. PairHas u pair (SpeaksOf u it)) is).0 (subst On of so), subst Made of refl)
     from (premise.Hold pair) so of = absurd of
     from (premise.Essential name) so of = absurd of
     from (premise.Keep name) so of = absurd of
 
 -- a removal's premises are those of the pairs of its name
 pub removal_premises : (u : Universe) (number : ℕ) (name : List ℕ) → IsRemovalOf u.goals number name → (pairs slice : List ℕ) → slice ≡ pairs
-    → AreNumbersOf u (λ pkg. pkg.name ≡ name) pairs → (found : Premise)
-    → IsOnEach number slice found ↔ (IsPremise u found × IsOfGoal number found)
-removal_premises u number name removal pairs slice is are found =
-    let Over : List ℕ → Type 0 = λ xs. IsOnEach number xs found ↔ (IsPremise u found × IsOfGoal number found) in
+    → AreNumbersOf u (λ pkg. pkg.name ≡ name) pairs → (reason : Premise)
+    → IsOnEach number slice reason ↔ (IsPremise u reason × IsOfGoal number reason)
+removal_premises u number name removal pairs slice is are reason =
+    let Over : List ℕ → Type 0 = λ xs. IsOnEach number xs reason ↔ (IsPremise u reason × IsOfGoal number reason) in
     subst Over (sym is) (either removal)
   where
     by : (asked : Goal) → item_at u.goals number ≡ Some asked → (¬ AsksForMember asked) → ((pair : ℕ) → PairHas u pair (λ pkg. pkg.name ≡ name) ↔ PairHas u pair (SpeaksOf u asked))
-        → IsOnEach number pairs found ↔ (IsPremise u found × IsOfGoal number found)
-    by asked there asks_not alike = let only = on_only u number asked there asks_not found in (
+        → IsOnEach number pairs reason ↔ (IsPremise u reason × IsOfGoal number reason)
+    by asked there asks_not alike = let only = on_only u number asked there asks_not reason in (
       λ (pair, within, same). only.1 (pair, (alike pair).0 ((are pair).0 within), same),
       λ both. let (pair, has, same) = only.0 both in (pair, (are pair).1 ((alike pair).1 has), same),
     )
 
-    either : IsRemovalOf u.goals number name → IsOnEach number pairs found ↔ (IsPremise u found × IsOfGoal number found)
+    either : IsRemovalOf u.goals number name → IsOnEach number pairs reason ↔ (IsPremise u reason × IsOfGoal number reason)
     either (inl there) = by (goal.Remove name) there (λ no. no) (λ pair. (λ has. has, λ has. has))
     either (inr there) = by (goal.Purge name) there (λ no. no) (λ pair. (λ has. has, λ has. has))
 
 -- what a removal says of each pair of its name
-pub removal_says : (u : Universe) (number : ℕ) (name : List ℕ) → IsRemovalOf u.goals number name → (pair : ℕ) (found : Literal)
-    → IsInPremise u (premise.GoalOn number pair) found ↔ (found ≡ said false pair)
-removal_says u number name (inl there) pair found = said_list u number (goal.Remove name) false there (λ p f. (λ so. so, λ so. so)) pair found
-removal_says u number name (inr there) pair found = said_list u number (goal.Purge name) false there (λ p f. (λ so. so, λ so. so)) pair found
+pub removal_says : (u : Universe) (number : ℕ) (name : List ℕ) → IsRemovalOf u.goals number name → (pair : ℕ) (item : Literal)
+    → IsInPremise u (premise.GoalOn number pair) item ↔ (item ≡ said false pair)
+removal_says u number name (inl there) pair item = said_list u number (goal.Remove name) false there (λ p f. (λ so. so, λ so. so)) pair item
+removal_says u number name (inr there) pair item = said_list u number (goal.Purge name) false there (λ p f. (λ so. so, λ so. so)) pair item
 
 -- an upgrade of all says that each pair is selected that it speaks of, and its premises are those of what the start says
-pub upgrade_says : (u : Universe) (number : ℕ) → item_at u.goals number ≡ Some goal.UpgradeAll → (pair : ℕ) (found : Literal)
-    → IsInPremise u (premise.GoalOn number pair) found ↔ (found ≡ said true pair)
-upgrade_says u number there pair found = said_list u number goal.UpgradeAll true there (λ p f. (λ so. so, λ so. so)) pair found
+pub upgrade_says : (u : Universe) (number : ℕ) → item_at u.goals number ≡ Some goal.UpgradeAll → (pair : ℕ) (item : Literal)
+    → IsInPremise u (premise.GoalOn number pair) item ↔ (item ≡ said true pair)
+upgrade_says u number there pair item = said_list u number goal.UpgradeAll true there (λ p f. (λ so. so, λ so. so)) pair item
 
-pub upgrade_premises : (u : Universe) (number : ℕ) → item_at u.goals number ≡ Some goal.UpgradeAll → (found : Premise)
-    → Any (λ start. IsUpgradeBy u number start found) u.starts ↔ (IsPremise u found × IsOfGoal number found)
-upgrade_premises u number there found = (to, from)
+pub upgrade_premises : (u : Universe) (number : ℕ) → item_at u.goals number ≡ Some goal.UpgradeAll → (reason : Premise)
+    → Any (λ start. IsUpgradeBy u number start reason) u.starts ↔ (IsPremise u reason × IsOfGoal number reason)
+upgrade_premises u number there reason = (to, from)
   where
-    only : (IsPremise u found × IsOfGoal number found) ↔ ((pair : ℕ) × PairHas u pair (SpeaksOf u goal.UpgradeAll) × (found ≡ premise.GoalOn number pair))
-    only = on_only u number goal.UpgradeAll there (λ no. no) found
+    only : (IsPremise u reason × IsOfGoal number reason) ↔ ((pair : ℕ) × PairHas u pair (SpeaksOf u goal.UpgradeAll) × (reason ≡ premise.GoalOn number pair))
+    only = on_only u number goal.UpgradeAll there (λ no. no) reason
 
-    to : Any (λ start. IsUpgradeBy u number start found) u.starts → IsPremise u found × IsOfGoal number found
-    to some = Any-elim (λ start. IsUpgradeBy u number start found) u.starts (IsPremise u found × IsOfGoal number found)
+    to : Any (λ start. IsUpgradeBy u number start reason) u.starts → IsPremise u reason × IsOfGoal number reason
+    to some = Any-elim (λ start. IsUpgradeBy u number start reason) u.starts (IsPremise u reason × IsOfGoal number reason)
         (λ start within (pair, (here, at, upgrade), same).
         only.1 (pair, (here, at, Any-intro (IsUpgradeFrom u here.pkg) u.starts start within upgrade), same)) some
 
-    from : IsPremise u found × IsOfGoal number found → Any (λ start. IsUpgradeBy u number start found) u.starts
+    from : IsPremise u reason × IsOfGoal number reason → Any (λ start. IsUpgradeBy u number start reason) u.starts
     from both =
         let (pair, (here, at, some), same) = only.0 both in
-        Any-elim (IsUpgradeFrom u here.pkg) u.starts (Any (λ start. IsUpgradeBy u number start found) u.starts)
-        (λ start within upgrade. Any-intro (λ s. IsUpgradeBy u number s found) u.starts start within (pair, (here, at, upgrade), same)) some
+        Any-elim (IsUpgradeFrom u here.pkg) u.starts (Any (λ start. IsUpgradeBy u number start reason) u.starts)
+        (λ start within upgrade. Any-intro (λ s. IsUpgradeBy u number s reason) u.starts start within (pair, (here, at, upgrade), same)) some
 
 -- the pairs of the candidate of a name that is unheld and stands lower are its upgrades
 pub upgrades_are : (u : Universe) (start : Start) (candidate : List ℕ) → start.is_held ≡ false
@@ -215,19 +215,19 @@ none_within {P} pairs is not pair = (
 )
 
 -- a goal that nothing be removed has no premise of its own
-pub no_remove_none : (u : Universe) (number : ℕ) → item_at u.goals number ≡ Some goal.NoRemove → (found : Premise)
-    → ¬ (IsPremise u found × IsOfGoal number found)
-no_remove_none u number there found both =
-    let (pair, (here, at, speaks), same) = (on_only u number goal.NoRemove there (λ none. none) found).0 both in speaks
+pub no_remove_none : (u : Universe) (number : ℕ) → item_at u.goals number ≡ Some goal.NoRemove → (reason : Premise)
+    → ¬ (IsPremise u reason × IsOfGoal number reason)
+no_remove_none u number there reason both =
+    let (pair, (here, at, speaks), same) = (on_only u number goal.NoRemove there (λ none. none) reason).0 both in speaks
 
 -- the premises of the goals at all places are those of goals
-pub all_goals : (u : Universe) (found : Premise)
-    → IsOfFirst (λ place one. IsPremise u one × IsOfGoal (place + 1) one) (length u.goals) found ↔ (IsPremise u found × IsGoalAsked found)
-all_goals u found = (
+pub all_goals : (u : Universe) (reason : Premise)
+    → IsOfFirst (λ place one. IsPremise u one × IsOfGoal (place + 1) one) (length u.goals) reason ↔ (IsPremise u reason × IsGoalAsked reason)
+all_goals u reason = (
   λ (place, within, (so, of)). (so, (place + 1, of)),
   λ (so, (number, of)).
-      let (place, next, within) = at number found so of in
-      let Of : ℕ → Type 0 = λ n. IsOfGoal n found in
+      let (place, next, within) = at number reason so of in
+      let Of : ℕ → Type 0 = λ n. IsOfGoal n reason in
       (place, within, (so, subst Of next of)),
 )
   where
@@ -250,12 +250,12 @@ all_goals u found = (
 
 -- the literal alone that a goal says of a pair
 pub said_alone : (clause : Literal → Type 0) (one made : Literal) (literals slice : List Literal) → slice ≡ literals → made ≡ one
-    → IsListOf (λ found. found ≡ made) literals → ((found : Literal) → clause found ↔ (found ≡ one)) → IsListOf clause slice
-said_alone clause one made literals slice is same alone says found =
-    let Over : List Literal → Type 0 = λ xs. Contains xs found ↔ clause found in
-    let Made : Literal → Type 0 = λ l. Contains literals found ↔ (found ≡ l) in
-    let here = subst Made same (alone found) in
-    subst Over (sym is) (λ within. (says found).1 (here.0 within), λ so. here.1 ((says found).0 so))
+    → IsListOf (λ item. item ≡ made) literals → ((item : Literal) → clause item ↔ (item ≡ one)) → IsListOf clause slice
+said_alone clause one made literals slice is same alone says item =
+    let Over : List Literal → Type 0 = λ xs. Contains xs item ↔ clause item in
+    let Made : Literal → Type 0 = λ l. Contains literals item ↔ (item ≡ l) in
+    let here = subst Made same (alone item) in
+    subst Over (sym is) (λ within. (says item).1 (here.0 within), λ so. here.1 ((says item).0 so))
 
 -- an install asks for the pairs of its name in a version that meets the restriction, an upgrade for those of the candidate
 pub install_list : (u : Universe) (number : ℕ) (asked : Goal) (name called : List ℕ) (restriction : Option Restriction)
@@ -280,10 +280,10 @@ upgrade_list u number asked name called there is same literals slice sliced list
 
 -- the premises of the upgrades of what the start says
 pub upgrades_by : (u : Universe) (number : ℕ) (start : Start) (pairs slice : List ℕ) → slice ≡ pairs
-    → ((pair : ℕ) → Contains pairs pair ↔ IsUpgradeOf u start pair) → (found : Premise)
-    → IsOnEach number slice found ↔ IsUpgradeBy u number start found
-upgrades_by u number start pairs slice is are found =
-    let Over : List ℕ → Type 0 = λ xs. IsOnEach number xs found ↔ IsUpgradeBy u number start found in
+    → ((pair : ℕ) → Contains pairs pair ↔ IsUpgradeOf u start pair) → (reason : Premise)
+    → IsOnEach number slice reason ↔ IsUpgradeBy u number start reason
+upgrades_by u number start pairs slice is are reason =
+    let Over : List ℕ → Type 0 = λ xs. IsOnEach number xs reason ↔ IsUpgradeBy u number start reason in
     subst Over (sym is) (
       λ (pair, within, same). (pair, (are pair).0 within, same),
       λ (pair, has, same). (pair, (are pair).1 has, same),

@@ -22,12 +22,12 @@ abbrev pub NeedsAt : Universe → (Pkg → List (List Atom)) → ℕ → ℕ →
 NeedsAt u field number clause = PairHas u number (λ pkg. HasAt (field pkg) clause (λ _. ⊤))
 
 abbrev pub IsInNeed : Universe → (Pkg → List (List Atom)) → ℕ → ℕ → Literal → Type 0
-IsInNeed u field number clause found = (found ≡ literal.Unselected number)
-    ⊎ Selects u (λ other. PairHas u number (λ pkg. HasAt (field pkg) clause (MatchesSome other))) found
+IsInNeed u field number clause item = (item ≡ literal.Unselected number)
+    ⊎ Selects u (λ other. PairHas u number (λ pkg. HasAt (field pkg) clause (MatchesSome other))) item
 
 -- a property that is another's selects the same
-selects_alike : (u : Universe) (P Q : Pkg → Type 0) → ((pkg : Pkg) → P pkg ↔ Q pkg) → (found : Literal)
-    → Selects u P found ↔ Selects u Q found
+selects_alike : (u : Universe) (P Q : Pkg → Type 0) → ((pkg : Pkg) → P pkg ↔ Q pkg) → (item : Literal)
+    → Selects u P item ↔ Selects u Q item
 selects_alike u P Q alike (literal.Selected number) = (
   λ (pair, there, holds). (pair, there, (alike pair.pkg).0 holds),
   λ (pair, there, holds). (pair, there, (alike pair.pkg).1 holds),
@@ -38,11 +38,11 @@ selects_alike u P Q alike (literal.Unselected number) = (λ is. is, λ is. is)
 pub need_list : (u : Universe) (field : Pkg → List (List Atom)) (number place clause : ℕ) (pkg : Pkg) (atoms : List Atom) (literals : List Literal)
     → PkgIsAt u number pkg → slice_get (field pkg) place ≡ Some atoms → clause ≡ place + 1 → IsListOf (IsOutOrMatching u number atoms) literals
     → IsListOf (IsInNeed u field number clause) literals
-need_list u field number place clause pkg atoms literals is there same all found =
+need_list u field number place clause pkg atoms literals is there same all item =
     let selects = selects_alike u (λ other. MatchesSome other atoms)
-    (λ other. PairHas u number (λ p. HasAt (field p) clause (MatchesSome other))) alike found in (
-      λ within. elim ((all found).0 within) [ inl out ↦ inl out | inr some ↦ inr (selects.0 some) ],
-      λ either. elim either [ inl out ↦ (all found).1 (inl out) | inr some ↦ (all found).1 (inr (selects.1 some)) ],
+    (λ other. PairHas u number (λ p. HasAt (field p) clause (MatchesSome other))) alike item in (
+      λ within. elim ((all item).0 within) [ inl out ↦ inl out | inr some ↦ inr (selects.0 some) ],
+      λ either. elim either [ inl out ↦ (all item).1 (inl out) | inr some ↦ (all item).1 (inr (selects.1 some)) ],
     )
   where
     here : item_at (field pkg) clause ≡ Some atoms
@@ -53,37 +53,37 @@ need_list u field number place clause pkg atoms literals is there same all found
         let has = has_pkg u number pkg (λ p. HasAt (field p) clause (MatchesSome other)) is in (
           λ some. has.0 (atoms, here, some),
           λ some.
-              let (found, at, matches) = has.1 some in
-              subst (MatchesSome other) (same_Some found atoms (sym at ∙ here)) matches,
+              let (clause_atoms, at, matches) = has.1 some in
+              subst (MatchesSome other) (same_Some clause_atoms atoms (sym at ∙ here)) matches,
         )
 
 -- the clauses at all places of a field are just the premises of the field
 pub all_needs : (u : Universe) (field : Pkg → List (List Atom)) (make : ℕ → Premise) (number : ℕ) (pkg : Pkg) → PkgIsAt u number pkg
-    → ((clause : ℕ) → IsPremise u (make clause) ↔ NeedsAt u field number clause) → (found : Premise)
-    → IsOfFirst (λ place one. one ≡ make (place + 1)) (length (field pkg)) found ↔ (IsPremise u found × ((clause : ℕ) × (found ≡ make clause)))
-all_needs u field make number pkg is premises found = (to, from)
+    → ((clause : ℕ) → IsPremise u (make clause) ↔ NeedsAt u field number clause) → (reason : Premise)
+    → IsOfFirst (λ place one. one ≡ make (place + 1)) (length (field pkg)) reason ↔ (IsPremise u reason × ((clause : ℕ) × (reason ≡ make clause)))
+all_needs u field make number pkg is premises reason = (to, from)
   where
-    to : IsOfFirst (λ place one. one ≡ make (place + 1)) (length (field pkg)) found → IsPremise u found × ((clause : ℕ) × (found ≡ make clause))
+    to : IsOfFirst (λ place one. one ≡ make (place + 1)) (length (field pkg)) reason → IsPremise u reason × ((clause : ℕ) × (reason ≡ make clause))
     to (place, within, same) =
         let (atoms, there) = item_there (field pkg) place within in
         let has : NeedsAt u field number (place + 1) = (has_pkg u number pkg (λ p. HasAt (field p) (place + 1) (λ _. ⊤)) is).0
         (atoms, at_place (field pkg) (place + 1) place atoms refl there, tt) in
         (subst (IsPremise u) (sym same) ((premises (place + 1)).1 has), (place + 1, same))
 
-    from : IsPremise u found × ((clause : ℕ) × (found ≡ make clause)) → IsOfFirst (λ place one. one ≡ make (place + 1)) (length (field pkg)) found
+    from : IsPremise u reason × ((clause : ℕ) × (reason ≡ make clause)) → IsOfFirst (λ place one. one ≡ make (place + 1)) (length (field pkg)) reason
     from (so, (clause, same)) =
         let has = (premises clause).0 (subst (IsPremise u) same so) in
         let (atoms, there, unit) = (has_pkg u number pkg (λ p. HasAt (field p) clause (λ _. ⊤)) is).1 has in
         let (place, next, within, at) = at_number (field pkg) clause atoms there in
-        let Made : ℕ → Type 0 = λ n. found ≡ make n in
+        let Made : ℕ → Type 0 = λ n. reason ≡ make n in
         (place, within, subst Made next same)
 
 -- the premises of the two fields are what the pair needs
-pub both_fields : (u : Universe) (number : ℕ) (found : Premise)
-    → ((IsPremise u found × IsPreDependsOf number found) ⊎ (IsPremise u found × IsDependsOf number found)) ↔ (IsPremise u found × IsNeedOf number found)
-both_fields u number found = (to, from found)
+pub both_fields : (u : Universe) (number : ℕ) (reason : Premise)
+    → ((IsPremise u reason × IsPreDependsOf number reason) ⊎ (IsPremise u reason × IsDependsOf number reason)) ↔ (IsPremise u reason × IsNeedOf number reason)
+both_fields u number reason = (to, from reason)
   where
-    to : (IsPremise u found × IsPreDependsOf number found) ⊎ (IsPremise u found × IsDependsOf number found) → IsPremise u found × IsNeedOf number found
+    to : (IsPremise u reason × IsPreDependsOf number reason) ⊎ (IsPremise u reason × IsDependsOf number reason) → IsPremise u reason × IsNeedOf number reason
     to (inl (so, (clause, same))) = (so, subst (IsNeedOf number) (sym same) refl)
     to (inr (so, (clause, same))) = (so, subst (IsNeedOf number) (sym same) refl)
 
@@ -102,7 +102,7 @@ both_fields u number found = (to, from found)
     from (premise.Keep name) (so, of) = absurd of
 
 -- a premise of what a pair needs speaks of that pair
-pub need_has : (u : Universe) (number : ℕ) (found : Premise) → IsPremise u found → IsNeedOf number found → PairHas u number (λ _. ⊤)
+pub need_has : (u : Universe) (number : ℕ) (reason : Premise) → IsPremise u reason → IsNeedOf number reason → PairHas u number (λ _. ⊤)
 need_has u number (premise.Same pair other) so of = absurd of
 need_has u number (premise.PreDepends pair clause) (here, there, has) of =
     let Has : ℕ → Type 0 = λ n. PairHas u n (λ _. ⊤) in subst Has of (here, there, tt)
@@ -116,17 +116,17 @@ need_has u number (premise.Hold pair) so of = absurd of
 need_has u number (premise.Essential name) so of = absurd of
 need_has u number (premise.Keep name) so of = absurd of
 
-pub no_need : (u : Universe) (place : ℕ) → None ≡ slice_get (packages_of u.pairs) place → (found : Premise)
-    → ¬ (IsPremise u found × IsNeedOf (place + 1) found)
-no_need u place is found (so, of) = none_in u place (λ _. ⊤) is (need_has u (place + 1) found so of)
+pub no_need : (u : Universe) (place : ℕ) → None ≡ slice_get (packages_of u.pairs) place → (reason : Premise)
+    → ¬ (IsPremise u reason × IsNeedOf (place + 1) reason)
+no_need u place is reason (so, of) = none_in u place (λ _. ⊤) is (need_has u (place + 1) reason so of)
 
 -- what the pairs at all places need is what pairs need
-pub all_pairs_need : (u : Universe) (found : Premise)
-    → IsOfFirst (λ place one. IsPremise u one × IsNeedOf (place + 1) one) (length u.pairs) found ↔ (IsPremise u found × IsNeed found)
-all_pairs_need u found = (
+pub all_pairs_need : (u : Universe) (reason : Premise)
+    → IsOfFirst (λ place one. IsPremise u one × IsNeedOf (place + 1) one) (length u.pairs) reason ↔ (IsPremise u reason × IsNeed reason)
+all_pairs_need u reason = (
   λ (place, within, (so, of)). (so, (place + 1, of)),
   λ (so, (number, of)).
-      let (place, next, within) = within_pairs u number (λ _. ⊤) (need_has u number found so of) in
-      let Of : ℕ → Type 0 = λ n. IsNeedOf n found in
+      let (place, next, within) = within_pairs u number (λ _. ⊤) (need_has u number reason so of) in
+      let Of : ℕ → Type 0 = λ n. IsNeedOf n reason in
       (place, within, (so, subst Of next of)),
 )

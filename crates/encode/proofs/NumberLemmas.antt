@@ -65,8 +65,8 @@ has_in u place pkg P is =
     mapped = slice_get-map first u.pairs place
 
     to : P pkg → PairHas u (suc place) P
-    to holds = let found = mapped_from first (slice_get u.pairs place) pkg (sym mapped ∙ sym is) in
-        (found.0, found.1, subst P (sym found.2) holds)
+    to holds = let origin = mapped_from first (slice_get u.pairs place) pkg (sym mapped ∙ sym is) in
+        (origin.0, origin.1, subst P (sym origin.2) holds)
 
     from : PairHas u (suc place) P → P pkg
     from (pair, there, holds) =
@@ -202,10 +202,10 @@ no_places At places numbers is number = (
 )
 
 -- the places that were found, in another order
-pub same_places : (packages offered : List Pkg) (At : List Pkg → ℕ → Type 0) → offered ≡ packages → (found places : List ℕ)
-    → ((place : ℕ) → Contains found place ↔ At offered place) → ((place : ℕ) → Contains places place ↔ Contains found place)
+pub same_places : (packages offered : List Pkg) (At : List Pkg → ℕ → Type 0) → offered ≡ packages → (first_places places : List ℕ)
+    → ((place : ℕ) → Contains first_places place ↔ At offered place) → ((place : ℕ) → Contains places place ↔ Contains first_places place)
     → (place : ℕ) → Contains places place ↔ At packages place
-same_places packages offered At is found places are same place =
+same_places packages offered At is first_places places are same place =
     let Over : List Pkg → Type 0 = λ xs. Contains places place ↔ At xs place in
     subst Over is (
       λ within. (are place).0 ((same place).0 within),
@@ -272,7 +272,7 @@ asked_numbers u name places slice is are P named numbers at number =
 other_named : (u : Universe) (name : List ℕ) (number : ℕ) (pair : Pair) → item_at u.pairs number ≡ Some pair
     → (is_of_other u name number ≡ true) ↔ (pair.pkg.name ≢ name)
 other_named u name number pair there =
-    let Is : Option Pair → Type 0 = λ found. (option_map_or (λ p. not (bytes_eq p.pkg.name name)) found false ≡ true) ↔ (pair.pkg.name ≢ name) in
+    let Is : Option Pair → Type 0 = λ maybe_pair. (option_map_or (λ p. not (bytes_eq p.pkg.name name)) maybe_pair false ≡ true) ↔ (pair.pkg.name ≢ name) in
     subst Is (sym there) (by (bytes_eq pair.pkg.name name) refl)
   where
     by : (b : Bool) → bytes_eq pair.pkg.name name ≡ b → (not (bytes_eq pair.pkg.name name) ≡ true) ↔ (pair.pkg.name ≢ name)

@@ -16,17 +16,17 @@ use Rattle.encode.specs.Starts.{IsEssentialBy, IsHeldBy, IsHoldBy, IsHoldEach, I
 use mathlib.Core.Logic.{inl, inr}
 
 -- the premises of each of a list of pairs
-pub hold_each : (pairs : List ℕ) (found : Premise) → Any (λ pair. found ≡ premise.Hold pair) pairs ↔ IsHoldEach pairs found
-hold_each pairs found = (
-  λ some. Any-elim (λ pair. found ≡ premise.Hold pair) pairs (IsHoldEach pairs found) (λ pair within same. (pair, within, same)) some,
-  λ (pair, within, same). Any-intro (λ one. found ≡ premise.Hold one) pairs pair within same,
+pub hold_each : (pairs : List ℕ) (reason : Premise) → Any (λ pair. reason ≡ premise.Hold pair) pairs ↔ IsHoldEach pairs reason
+hold_each pairs reason = (
+  λ some. Any-elim (λ pair. reason ≡ premise.Hold pair) pairs (IsHoldEach pairs reason) (λ pair within same. (pair, within, same)) some,
+  λ (pair, within, same). Any-intro (λ one. reason ≡ premise.Hold one) pairs pair within same,
 )
 
 -- the premises of the pairs that are held are those of the start's name
 pub hold_premises : (u : Universe) (start : Start) (pairs slice : List ℕ) → slice ≡ pairs
-    → ((pair : ℕ) → Contains pairs pair ↔ PairHas u pair (IsHeldBy start)) → (found : Premise) → IsHoldEach slice found ↔ IsHoldBy u start found
-hold_premises u start pairs slice is are found =
-    let Over : List ℕ → Type 0 = λ xs. IsHoldEach xs found ↔ IsHoldBy u start found in
+    → ((pair : ℕ) → Contains pairs pair ↔ PairHas u pair (IsHeldBy start)) → (reason : Premise) → IsHoldEach slice reason ↔ IsHoldBy u start reason
+hold_premises u start pairs slice is are reason =
+    let Over : List ℕ → Type 0 = λ xs. IsHoldEach xs reason ↔ IsHoldBy u start reason in
     subst Over (sym is) (
       λ (pair, within, same). (pair, (are pair).0 within, same),
       λ (pair, has, same). (pair, (are pair).1 has, same),
@@ -53,11 +53,11 @@ fallen_none u start fallen pair (here, there, by) =
     subst At fallen by.2
 
 -- what the start says of its names are the premises of the start
-pub all_starts : (u : Universe) (found : Premise) → Any (λ start. IsSaidBy u start found) u.starts ↔ (IsPremise u found × IsOfStart found)
+pub all_starts : (u : Universe) (reason : Premise) → Any (λ start. IsSaidBy u start reason) u.starts ↔ (IsPremise u reason × IsOfStart reason)
 unfolding IsEssentialIn
-all_starts u found = (to, from found)
+all_starts u reason = (to, from reason)
   where
-    one : (start : Start) → Contains u.starts start → IsSaidBy u start found → IsPremise u found × IsOfStart found
+    one : (start : Start) → Contains u.starts start → IsSaidBy u start reason → IsPremise u reason × IsOfStart reason
     one start within (inl (pair, (here, there, by), same)) = (
       subst (IsPremise u) (sym same) (
         here,
@@ -81,8 +81,8 @@ all_starts u found = (to, from found)
       subst IsOfStart (sym same) tt,
     )
 
-    to : Any (λ start. IsSaidBy u start found) u.starts → IsPremise u found × IsOfStart found
-    to some = Any-elim (λ start. IsSaidBy u start found) u.starts (IsPremise u found × IsOfStart found) one some
+    to : Any (λ start. IsSaidBy u start reason) u.starts → IsPremise u reason × IsOfStart reason
+    to some = Any-elim (λ start. IsSaidBy u start reason) u.starts (IsPremise u reason × IsOfStart reason) one some
 
     from : (f : Premise) → IsPremise u f × IsOfStart f → Any (λ start. IsSaidBy u start f) u.starts
     from (premise.Same pair other) (so, of) = absurd of
@@ -106,33 +106,33 @@ all_starts u found = (to, from found)
         let Made : List ℕ → Type 0 = λ n. premise.Keep name ≡ premise.Keep n in
         inr (inr (keeps, stands, subst Made (sym same) refl))) some
 
-pub three_said : (u : Universe) (start : Start) (found : Premise)
-    → ((IsHoldBy u start found ⊎ IsEssentialBy start found) ⊎ IsKeepBy u start found) ↔ IsSaidBy u start found
-three_said u start found = (to, from)
+pub three_said : (u : Universe) (start : Start) (reason : Premise)
+    → ((IsHoldBy u start reason ⊎ IsEssentialBy start reason) ⊎ IsKeepBy u start reason) ↔ IsSaidBy u start reason
+three_said u start reason = (to, from)
   where
-    to : (IsHoldBy u start found ⊎ IsEssentialBy start found) ⊎ IsKeepBy u start found → IsSaidBy u start found
+    to : (IsHoldBy u start reason ⊎ IsEssentialBy start reason) ⊎ IsKeepBy u start reason → IsSaidBy u start reason
     to (inl (inl so)) = inl so
     to (inl (inr so)) = inr (inl so)
     to (inr so) = inr (inr so)
 
-    from : IsSaidBy u start found → (IsHoldBy u start found ⊎ IsEssentialBy start found) ⊎ IsKeepBy u start found
+    from : IsSaidBy u start reason → (IsHoldBy u start reason ⊎ IsEssentialBy start reason) ⊎ IsKeepBy u start reason
     from (inl so) = inl (inl so)
     from (inr (inl so)) = inl (inr so)
     from (inr (inr so)) = inr so
 
 -- the premise of a name that is essential and was present, and of one that stood where nothing is to be removed
-pub essential_by : (start : Start) (name : List ℕ) → name ≡ start.name → IsTrue start.is_essential × IsTrue start.is_present → (found : Premise)
-    → (found ≡ premise.Essential name) ↔ IsEssentialBy start found
-essential_by start name same needed found =
-    let Made : List ℕ → Type 0 = λ n. found ≡ premise.Essential n in (
+pub essential_by : (start : Start) (name : List ℕ) → name ≡ start.name → IsTrue start.is_essential × IsTrue start.is_present → (reason : Premise)
+    → (reason ≡ premise.Essential name) ↔ IsEssentialBy start reason
+essential_by start name same needed reason =
+    let Made : List ℕ → Type 0 = λ n. reason ≡ premise.Essential n in (
       λ is. (needed.0, needed.1, subst Made same is),
       λ (essential, present, is). subst Made (sym same) is,
     )
 
 pub keep_by : (u : Universe) (start : Start) (name : List ℕ) → name ≡ start.name → Contains u.goals goal.NoRemove
-    → MatchOption start.standing ⊥ (λ _. ⊤) → (found : Premise) → (found ≡ premise.Keep name) ↔ IsKeepBy u start found
-keep_by u start name same keeps stands found =
-    let Made : List ℕ → Type 0 = λ n. found ≡ premise.Keep n in (
+    → MatchOption start.standing ⊥ (λ _. ⊤) → (reason : Premise) → (reason ≡ premise.Keep name) ↔ IsKeepBy u start reason
+keep_by u start name same keeps stands reason =
+    let Made : List ℕ → Type 0 = λ n. reason ≡ premise.Keep n in (
       λ is. (keeps, stands, subst Made same is),
       λ (kept, stood, is). subst Made (sym same) is,
     )

@@ -14,8 +14,8 @@ premise_against against.Breaks number other = premise.Breaks number other
 
 -- the premise is of the pair of the number and some other
 abbrev pub IsAgainstBy : Against → ℕ → Premise → Type 0
-IsAgainstBy why number found = (other : ℕ) × (found ≡ premise_against why number other)
+IsAgainstBy why number reason = (other : ℕ) × (reason ≡ premise_against why number other)
 
 -- the premise is of the pair of the number and one of the others
 abbrev pub IsAgainstEach : Against → ℕ → List ℕ → Premise → Type 0
-IsAgainstEach why number others found = (other : ℕ) × Contains others other × (found ≡ premise_against why number other)
+IsAgainstEach why number others reason = (other : ℕ) × Contains others other × (reason ≡ premise_against why number other)

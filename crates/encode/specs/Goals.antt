@@ -18,7 +18,7 @@ said false pair = literal.Unselected pair
 
 -- the premise is of the goal of the number and one of the pairs
 abbrev pub IsOnEach : ℕ → List ℕ → Premise → Type 0
-IsOnEach number pairs found = (pair : ℕ) × Contains pairs pair × (found ≡ premise.GoalOn number pair)
+IsOnEach number pairs reason = (pair : ℕ) × Contains pairs pair × (reason ≡ premise.GoalOn number pair)
 
 -- the pair is the candidate of what the start says, which is unheld and stands in a lower version
 abbrev pub IsUpgradeOf : Universe → Start → ℕ → Type 0
@@ -26,7 +26,7 @@ IsUpgradeOf u start pair = PairHas u pair (λ pkg. IsUpgradeFrom u pkg start)
 
 -- the premise is of the goal of the number and such a pair
 abbrev pub IsUpgradeBy : Universe → ℕ → Start → Premise → Type 0
-IsUpgradeBy u number start found = (pair : ℕ) × IsUpgradeOf u start pair × (found ≡ premise.GoalOn number pair)
+IsUpgradeBy u number start reason = (pair : ℕ) × IsUpgradeOf u start pair × (reason ≡ premise.GoalOn number pair)
 
 -- the goal of the number is to remove or to purge the name
 abbrev pub IsRemovalOf : List Goal → ℕ → List ℕ → Type 0

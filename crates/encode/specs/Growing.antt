@@ -16,12 +16,12 @@ pub record IsGathered (u : Universe) (encoding : Encoding) : Type 0 where
 -- one encoding grows into another by the premises of a kind, with their clauses
 pub record Grows (u : Universe) (old new : Encoding) (Kind : Premise → Type 0) : Type 0 where
   pub gathers : IsGathered u old → IsGathered u new
-  pub adds : (found : Premise) → Contains new.premises found ↔ (Contains old.premises found ⊎ Kind found)
+  pub adds : (reason : Premise) → Contains new.premises reason ↔ (Contains old.premises reason ⊎ Kind reason)
   pub numbers : new.clauses.numbers ≡ old.clauses.numbers
 
 -- of one of the first kinds, counted from 0
 abbrev pub IsOfFirst : (ℕ → Premise → Type 0) → ℕ → Premise → Type 0
-IsOfFirst Kind count found = (place : ℕ) × (place < count) × Kind place found
+IsOfFirst Kind count reason = (place : ℕ) × (place < count) × Kind place reason
 
 -- the package is that of the pair of the number
 abbrev pub PkgIsAt : Universe → ℕ → Pkg → Type 0
@@ -29,10 +29,10 @@ PkgIsAt u number pkg = (place : ℕ) × (number ≡ place + 1) × (slice_get (pa
 
 -- it is a clause of Pre-Depends, or of Depends, of the pair of the number
 abbrev pub IsPreDependsOf : ℕ → Premise → Type 0
-IsPreDependsOf number found = (clause : ℕ) × (found ≡ premise.PreDepends number clause)
+IsPreDependsOf number reason = (clause : ℕ) × (reason ≡ premise.PreDepends number clause)
 
 abbrev pub IsDependsOf : ℕ → Premise → Type 0
-IsDependsOf number found = (clause : ℕ) × (found ≡ premise.Depends number clause)
+IsDependsOf number reason = (clause : ℕ) × (reason ≡ premise.Depends number clause)
 
 -- it speaks of the goal of this number
 abbrev pub IsOfGoal : ℕ → Premise → Type 0
@@ -88,10 +88,10 @@ IsOfStart (premise.Keep name) = ⊤
 
 -- it speaks of a goal, says what a pair needs, or says what a pair is against
 abbrev pub IsGoalAsked : Premise → Type 0
-IsGoalAsked found = (number : ℕ) × IsOfGoal number found
+IsGoalAsked reason = (number : ℕ) × IsOfGoal number reason
 
 abbrev pub IsNeed : Premise → Type 0
-IsNeed found = (number : ℕ) × IsNeedOf number found
+IsNeed reason = (number : ℕ) × IsNeedOf number reason
 
 abbrev pub IsAgainst : Premise → Type 0
-IsAgainst found = (number : ℕ) × IsAgainstOf number found
+IsAgainst reason = (number : ℕ) × IsAgainstOf number reason

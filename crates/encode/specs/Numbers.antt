@@ -31,9 +31,9 @@ is_of_other u name number = option_map_or (λ pair. not (bytes_eq pair.pkg.name 
 
 -- the literal says that the pair of one of the numbers is selected
 abbrev pub SelectsOneOf : List ℕ → Literal → Type 0
-SelectsOneOf numbers found = (number : ℕ) × Contains numbers number × (found ≡ literal.Selected number)
+SelectsOneOf numbers item = (number : ℕ) × Contains numbers number × (item ≡ literal.Selected number)
 
 -- the literal says that the pair isn't selected, or that one is whose package matches an atom of the list
 abbrev pub IsOutOrMatching : Universe → ℕ → List Atom → Literal → Type 0
-IsOutOrMatching u number atoms found =
-    (found ≡ literal.Unselected number) ⊎ Selects u (λ other. MatchesSome other atoms) found
+IsOutOrMatching u number atoms item =
+    (item ≡ literal.Unselected number) ⊎ Selects u (λ other. MatchesSome other atoms) item

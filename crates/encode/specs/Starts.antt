@@ -15,20 +15,20 @@ IsHeldBy start pkg = (start.name ≡ pkg.name) × IsTrue start.is_held × MatchO
 
 -- the premise is that one of these pairs is held
 abbrev pub IsHoldEach : List ℕ → Premise → Type 0
-IsHoldEach pairs found = (pair : ℕ) × Contains pairs pair × (found ≡ premise.Hold pair)
+IsHoldEach pairs reason = (pair : ℕ) × Contains pairs pair × (reason ≡ premise.Hold pair)
 
 -- the premise is that a pair is held of which the start says so
 abbrev pub IsHoldBy : Universe → Start → Premise → Type 0
-IsHoldBy u start found = (pair : ℕ) × PairHas u pair (IsHeldBy start) × (found ≡ premise.Hold pair)
+IsHoldBy u start reason = (pair : ℕ) × PairHas u pair (IsHeldBy start) × (reason ≡ premise.Hold pair)
 
 -- the premise is that the name is essential and was present
 abbrev pub IsEssentialBy : Start → Premise → Type 0
-IsEssentialBy start found = IsTrue start.is_essential × IsTrue start.is_present × (found ≡ premise.Essential start.name)
+IsEssentialBy start reason = IsTrue start.is_essential × IsTrue start.is_present × (reason ≡ premise.Essential start.name)
 
 -- the premise is that the name stood, where nothing is to be removed
 abbrev pub IsKeepBy : Universe → Start → Premise → Type 0
-IsKeepBy u start found = Contains u.goals goal.NoRemove × MatchOption start.standing ⊥ (λ _. ⊤) × (found ≡ premise.Keep start.name)
+IsKeepBy u start reason = Contains u.goals goal.NoRemove × MatchOption start.standing ⊥ (λ _. ⊤) × (reason ≡ premise.Keep start.name)
 
 -- one of these three
 abbrev pub IsSaidBy : Universe → Start → Premise → Type 0
-IsSaidBy u start found = IsHoldBy u start found ⊎ (IsEssentialBy start found ⊎ IsKeepBy u start found)
+IsSaidBy u start reason = IsHoldBy u start reason ⊎ (IsEssentialBy start reason ⊎ IsKeepBy u start reason)

@@ -44,7 +44,9 @@ fn add_one<'a>(
     number: u32,
     other: u32,
 ) -> Result<(), AllocError>
-    ensures { OnOk result (Grows facts.now encoding.old encoding.new (λ found. found ≡ premise_against against number other)) }
+    ensures { OnOk result
+        (Grows facts.now encoding.old encoding.new
+        (λ reason. reason ≡ premise_against against number other)) }
 {
     let literals = either_out(facts.alloc(), number, other)?;
     let basis = basis_of(against, number, other);
@@ -60,7 +62,8 @@ fn add_each<'a>(
     number: u32,
     others: &[u32],
 ) -> Result<(), AllocError>
-    ensures { OnOk result (Grows facts.now encoding.old encoding.new (IsAgainstEach against number others.now)) }
+    ensures { OnOk result
+        (Grows facts.now encoding.old encoding.new (IsAgainstEach against number others.now)) }
 {
     for other in others {
         add_one(facts, encoding, against, number, *other)?;
@@ -70,7 +73,8 @@ fn add_each<'a>(
 
 // Of the numbers those behind a number.
 fn those_behind(alloc: Global, numbers: &[u32], number: u32) -> Result<Vec<u32>, AllocError>
-    ensures { IfOk result (λ others. others.items ≡ filter (λ other. nat_lt number other) numbers.now) }
+    ensures { IfOk result
+        (λ others. others.items ≡ filter (λ other. nat_lt number other) numbers.now) }
 {
     numbers
         .iter()
@@ -84,7 +88,7 @@ fn behind(facts: &Facts<'_, '_, '_, '_>, number: u32, name: &[u8]) -> Result<Vec
     ensures { IfOk result (λ others. (other : ℕ) → Contains others.items other
         ↔ ((number < other) × PairHas facts.now other (λ pkg. pkg.name ≡ name.now))) }
 {
-    let named = facts.asked(Query::Named(name))?;
+    let named = facts.numbers_of(Query::Named(name))?;
     let others = those_behind(facts.alloc(), named.as_slice(), number)?;
     Ok(others)
 }
@@ -124,7 +128,9 @@ fn add_against<'a>(
     pkg: &Pkg<'a>,
 ) -> Result<(), AllocError>
     requires { PkgIsAt facts.now number pkg.now }
-    ensures { OnOk result (Grows facts.now encoding.old encoding.new (λ found. IsPremise facts.now found × IsAgainstBy against number found)) }
+    ensures { OnOk result
+        (Grows facts.now encoding.old encoding.new
+        (λ reason. IsPremise facts.now reason × IsAgainstBy against number reason)) }
 {
     let others = others_of(facts, against, number, pkg)?;
     add_each(facts, encoding, against, number, others.as_slice())?;
@@ -139,7 +145,9 @@ fn add_against_of<'a>(
     pkg: &Pkg<'a>,
 ) -> Result<(), AllocError>
     requires { PkgIsAt facts.now number pkg.now }
-    ensures { OnOk result (Grows facts.now encoding.old encoding.new (λ found. IsPremise facts.now found × IsAgainstOf number found)) }
+    ensures { OnOk result
+        (Grows facts.now encoding.old encoding.new
+        (λ reason. IsPremise facts.now reason × IsAgainstOf number reason)) }
 {
     add_against(facts, encoding, Against::Same, number, pkg)?;
     add_against(facts, encoding, Against::Conflicts, number, pkg)?;
@@ -153,7 +161,9 @@ fn add_against_at<'a>(
     encoding: &mut Encoding<'a>,
     place: usize,
 ) -> Result<(), AllocError>
-    ensures { OnOk result (Grows facts.now encoding.old encoding.new (λ found. IsPremise facts.now found × IsAgainstOf (place + 1) found)) }
+    ensures { OnOk result
+        (Grows facts.now encoding.old encoding.new
+        (λ reason. IsPremise facts.now reason × IsAgainstOf (place + 1) reason)) }
 {
     match facts.pkg_in(place) {
         None => Ok(()),
@@ -170,7 +180,9 @@ pub(crate) fn add_all_against<'a>(
     facts: &Facts<'_, '_, '_, 'a>,
     encoding: &mut Encoding<'a>,
 ) -> Result<(), AllocError>
-    ensures { OnOk result (Grows facts.now encoding.old encoding.new (λ found. IsPremise facts.now found × IsAgainst found)) }
+    ensures { OnOk result
+        (Grows facts.now encoding.old encoding.new
+        (λ reason. IsPremise facts.now reason × IsAgainst reason)) }
 {
     for place in 0..facts.count() {
         add_against_at(facts, encoding, place)?;

@@ -36,7 +36,8 @@ pub enum Basis<'a> {
 
 // A copy of a name; none of bytes that are no name.
 fn name_of(alloc: Global, bytes: &[u8]) -> Result<Option<Name>, AllocError>
-    ensures { IfOk result (λ found. MatchOption found (is_name bytes.now ≡ false) (λ name. name ≡ bytes.now)) }
+    ensures { IfOk result
+        (λ answer. MatchOption answer (is_name bytes.now ≡ false) (λ name. name ≡ bytes.now)) }
 {
     if is_name(bytes) {
         Ok(Some(Name::copied_from(alloc, bytes)?))
@@ -49,7 +50,9 @@ impl Basis<'_> {
     /// The premise of a refutation; none exactly where it speaks of a name that is none (Policy 5.6.1), which no status file
     /// has. Memory alone can fail.
     pub fn premise(&self, alloc: Global) -> Result<Option<Premise>, AllocError>
-        ensures { IfOk result (λ found. MatchOption found (IsNameless self.now) (λ premise. premise ≡ premise_of self.now)) }
+        ensures { IfOk result
+            (λ answer. MatchOption answer (IsNameless self.now)
+            (λ premise. premise ≡ premise_of self.now)) }
     {
         match self {
             Basis::Same(number, other) => Ok(Some(Premise::Same(*number, *other))),

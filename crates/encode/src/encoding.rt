@@ -4,7 +4,7 @@ ghost use Rattle.std.specs.Prelude.{◌≡◌, ◌++◌, ◌∷◌, [], IfSome, 
 ghost use Rattle.refutation.specs.Clause.{IsListOf};
 ghost use Rattle.refutation.specs.Premise.{IsInPremise};
 ghost use Rattle.encode.specs.Basis.{premise_of};
-ghost use Rattle.encode.specs.Encoding.{signed};
+ghost use Rattle.encode.specs.Encoding.{signed_number};
 ghost use Rattle.encode.specs.Growing.{Grows};
 
 use crate::basis::Basis;
@@ -33,8 +33,8 @@ impl<'a> Model for Encoding<'a> {
 }
 
 // The literal as clauses over numbers have it; none of a number that doesn't fit one.
-fn signed(literal: Literal) -> Option<i32>
-    ensures { IfSome result (λ number. number ≡ signed literal) }
+fn signed_number(literal: Literal) -> Option<i32>
+    ensures { IfSome result (λ number. number ≡ signed_number literal) }
 {
     match literal {
         Literal::Selected(number) => i32::try_from(number).ok(),
@@ -78,9 +78,11 @@ impl<'a> Encoding<'a> {
         ensures premises { OnOk result (self.new.premises ≡ self.old.premises) }
         ensures clauses { OnOk result (self.new.clauses.clauses ≡ self.old.clauses.clauses) }
         ensures numbers { OnOk result (self.new.clauses.numbers ≡ self.old.clauses.numbers) }
-        ensures pushed { OnOk result (self.new.clauses.open_clause ≡ self.old.clauses.open_clause ++ signed literal ∷ []) }
+        ensures pushed { OnOk result
+            (self.new.clauses.open_clause ≡ self.old.clauses.open_clause ++ signed_number literal
+            ∷ []) }
     {
-        match signed(literal) {
+        match signed_number(literal) {
             Some(number) => self.clauses.push(number),
             None => Err(AllocError),
         }
@@ -91,7 +93,9 @@ impl<'a> Encoding<'a> {
         ensures premises { OnOk result (self.new.premises ≡ self.old.premises) }
         ensures clauses { OnOk result (self.new.clauses.clauses ≡ self.old.clauses.clauses) }
         ensures numbers { OnOk result (self.new.clauses.numbers ≡ self.old.clauses.numbers) }
-        ensures pushed { OnOk result (self.new.clauses.open_clause ≡ self.old.clauses.open_clause ++ map signed literals.now) }
+        ensures pushed { OnOk result
+            (self.new.clauses.open_clause ≡ self.old.clauses.open_clause
+            ++ map signed_number literals.now) }
     {
         for literal in literals {
             self.push_literal(*literal)?;
@@ -101,9 +105,11 @@ impl<'a> Encoding<'a> {
 
     // Puts a premise behind the others, with the clause of these literals.
     fn push(&mut self, basis: Basis<'a>, literals: &[Literal]) -> Result<(), AllocError>
-        ensures premises { OnOk result (self.new.premises ≡ self.old.premises ++ premise_of basis.entry ∷ []) }
+        ensures premises { OnOk result
+            (self.new.premises ≡ self.old.premises ++ premise_of basis.entry ∷ []) }
         ensures clauses { OnOk result (self.new.clauses.clauses
-            ≡ self.old.clauses.clauses ++ (self.old.clauses.open_clause ++ map signed literals.now) ∷ []) }
+            ≡ self.old.clauses.clauses
+            ++ (self.old.clauses.open_clause ++ map signed_number literals.now) ∷ []) }
         ensures numbers { OnOk result (self.new.clauses.numbers ≡ self.old.clauses.numbers) }
         ensures opened { OnOk result (self.new.clauses.open_clause ≡ []) }
     {
@@ -121,7 +127,8 @@ impl<'a> Encoding<'a> {
         literals: &[Literal],
     ) -> Result<(), AllocError>
         requires { IsListOf (IsInPremise facts.now (premise_of basis)) literals.now }
-        ensures { OnOk result (Grows facts.now self.old self.new (λ found. found ≡ premise_of basis.entry)) }
+        ensures { OnOk result
+            (Grows facts.now self.old self.new (λ reason. reason ≡ premise_of basis.entry)) }
     {
         let _facts = facts;
         self.push(basis, literals)?;

@@ -121,16 +121,18 @@ impl<'u, 'w, 'p, 'a> Facts<'u, 'w, 'p, 'a> {
 
     /// The same places, those first whose packages are preferred where the name is asked for. Memory alone can fail. About
     /// n log n comparisons.
-    pub(crate) fn preferred(
+    pub(crate) fn by_preference(
         &self,
         places: Vec<usize>,
         name: &[u8],
     ) -> Result<Vec<usize>, AllocError>
-        ensures { IfOk result (λ preferred. (place : ℕ) → Contains preferred.items place ↔ Contains places.items place) }
+        ensures { IfOk result
+            (λ by_preference. (place : ℕ) → Contains by_preference.items place
+            ↔ Contains places.items place) }
     {
-        let mut preferred = places;
-        preferred.sort_by_key(|place| self.order_at(*place, name))?;
-        Ok(preferred)
+        let mut by_preference = places;
+        by_preference.sort_by_key(|place| self.order_at(*place, name))?;
+        Ok(by_preference)
     }
 
     // Puts the number of the pair at this place behind the others, if its package is asked for.
@@ -141,7 +143,8 @@ impl<'u, 'w, 'p, 'a> Facts<'u, 'w, 'p, 'a> {
         query: Query<'_, '_>,
     ) -> Result<(), AllocError>
         ensures { OnOk result ((number : ℕ) → Contains numbers.new.items number
-            ↔ (Contains numbers.old.items number ⊎ IsNumberAt self.now (IsAsked query.entry) place number)) }
+            ↔ (Contains numbers.old.items number
+            ⊎ IsNumberAt self.now (IsAsked query.entry) place number)) }
     {
         match self.pkg_in(place) {
             None => Ok(()),
@@ -170,17 +173,20 @@ impl<'u, 'w, 'p, 'a> Facts<'u, 'w, 'p, 'a> {
 
     // The places of the packages that have or provide the name, those first that are preferred.
     fn places_of(&self, name: &[u8]) -> Result<Vec<usize>, AllocError>
-        ensures { IfOk result (λ places. (place : ℕ) → Contains places.items place ↔ IsProviderAt name.now (packages_of self.now.pairs) place) }
+        ensures { IfOk result
+            (λ places. (place : ℕ) → Contains places.items place
+            ↔ IsProviderAt name.now (packages_of self.now.pairs) place) }
     {
         let places = self.providers().of(self.alloc, name)?;
-        let preferred = self.preferred(places, name)?;
+        let preferred = self.by_preference(places, name)?;
         Ok(preferred)
     }
 
     /// The numbers of the pairs whose packages are asked for, each once, those first that are preferred. Memory alone can
     /// fail. About n log n comparisons of the n packages that have or provide the name.
-    pub(crate) fn asked(&self, query: Query<'_, '_>) -> Result<Vec<u32>, AllocError>
-        ensures { IfOk result (λ numbers. AreNumbersOf self.now (IsAsked query.entry) numbers.items) }
+    pub(crate) fn numbers_of(&self, query: Query<'_, '_>) -> Result<Vec<u32>, AllocError>
+        ensures { IfOk result
+            (λ numbers. AreNumbersOf self.now (IsAsked query.entry) numbers.items) }
     {
         let places = self.places_of(query.name())?;
         let numbers = self.asked_at(places.as_slice(), query)?;

@@ -44,8 +44,10 @@ fn add_on<'a>(
     pair: u32,
     is_selected: bool,
 ) -> Result<(), AllocError>
-    requires { (found : LiteralValue) → IsInPremise facts.now (premise.GoalOn number pair) found ↔ (found ≡ said is_selected pair) }
-    ensures { OnOk result (Grows facts.now encoding.old encoding.new (λ found. found ≡ premise.GoalOn number pair)) }
+    requires { (item : LiteralValue) → IsInPremise facts.now (premise.GoalOn number pair) item
+        ↔ (item ≡ said is_selected pair) }
+    ensures { OnOk result
+        (Grows facts.now encoding.old encoding.new (λ item. item ≡ premise.GoalOn number pair)) }
 {
     let literals = alone(facts.alloc(), literal_of(is_selected, pair))?;
     encoding.add(facts, Basis::GoalOn(number, pair), literals.as_slice())
@@ -59,7 +61,8 @@ fn add_on_each<'a>(
     pairs: &[u32],
     is_selected: bool,
 ) -> Result<(), AllocError>
-    requires { (pair : ℕ) (found : LiteralValue) → IsInPremise facts.now (premise.GoalOn number pair) found ↔ (found ≡ said is_selected pair) }
+    requires { (pair : ℕ) (item : LiteralValue)
+        → IsInPremise facts.now (premise.GoalOn number pair) item ↔ (item ≡ said is_selected pair) }
     ensures { OnOk result (Grows facts.now encoding.old encoding.new (IsOnEach number pairs.now)) }
 {
     for pair in pairs {
@@ -74,7 +77,8 @@ fn candidate_selected(
     name: &[u8],
 ) -> Result<Vec<Literal>, AllocError>
     ensures { IfOk result (λ literals. IsListOf (Selects facts.now
-        (λ pkg. MatchOption (candidate_of facts.now name.now) ⊥ (λ candidate. IsOf name.now candidate pkg))) literals.items) }
+        (λ pkg. MatchOption (candidate_of facts.now name.now) ⊥
+        (λ candidate. IsOf name.now candidate pkg))) literals.items) }
 {
     match facts.part().candidate(name) {
         None => Ok(Vec::new(facts.alloc())),
@@ -91,10 +95,12 @@ fn higher<'k, 'a>(
     candidate: Option<&'k Version<'a>>,
 ) -> Option<&'k Version<'a>>
     ensures { MatchOption result
-        ((lower higher : List ℕ) → option_copied standing.entry ≡ Some lower → option_copied candidate.entry ≡ Some higher
+        ((lower higher : List ℕ) → option_copied standing.entry ≡ Some lower
+        → option_copied candidate.entry ≡ Some higher
         → ¬ (version_cmp lower higher ≡ Less))
-        (λ found. (lower : List ℕ) × (option_copied standing.entry ≡ Some lower)
-        × (option_copied candidate.entry ≡ Some found.now) × (version_cmp lower found.now ≡ Less)) }
+        (λ version. (lower : List ℕ) × (option_copied standing.entry ≡ Some lower)
+        × (option_copied candidate.entry ≡ Some version.now)
+        × (version_cmp lower version.now ≡ Less)) }
 {
     match (standing, candidate) {
         (Some(lower), Some(higher)) if lower.cmp(higher).is_lt() => Some(higher),
@@ -104,7 +110,8 @@ fn higher<'k, 'a>(
 
 // The pairs that an upgrade of all asks for in place of what the start says of a name.
 fn upgrades_of(facts: &Facts<'_, '_, '_, '_>, start: &Start<'_>) -> Result<Vec<u32>, AllocError>
-    ensures { IfOk result (λ pairs. (pair : ℕ) → Contains pairs.items pair ↔ IsUpgradeOf facts.now start.now pair) }
+    ensures { IfOk result
+        (λ pairs. (pair : ℕ) → Contains pairs.items pair ↔ IsUpgradeOf facts.now start.now pair) }
 {
     if start.is_held() {
         return Ok(Vec::new(facts.alloc()));
@@ -112,7 +119,7 @@ fn upgrades_of(facts: &Facts<'_, '_, '_, '_>, start: &Start<'_>) -> Result<Vec<u
     match higher(start.standing(), facts.part().candidate(start.name())) {
         None => Ok(Vec::new(facts.alloc())),
         Some(version) => {
-            let pairs = facts.asked(Query::InVersion(start.name(), version))?;
+            let pairs = facts.numbers_of(Query::InVersion(start.name(), version))?;
             Ok(pairs)
         }
     }
@@ -126,7 +133,8 @@ fn add_upgrades_of<'a>(
     start: &Start<'a>,
 ) -> Result<(), AllocError>
     requires { item_at facts.now.goals number ≡ Some Goal.UpgradeAll }
-    ensures { OnOk result (Grows facts.now encoding.old encoding.new (IsUpgradeBy facts.now number start.now)) }
+    ensures { OnOk result
+        (Grows facts.now encoding.old encoding.new (IsUpgradeBy facts.now number start.now)) }
 {
     let pairs = upgrades_of(facts, start)?;
     add_on_each(facts, encoding, number, pairs.as_slice(), true)?;
@@ -140,7 +148,9 @@ fn add_upgrades<'a>(
     number: u32,
 ) -> Result<(), AllocError>
     requires { item_at facts.now.goals number ≡ Some Goal.UpgradeAll }
-    ensures { OnOk result (Grows facts.now encoding.old encoding.new (λ found. IsPremise facts.now found × IsOfGoal number found)) }
+    ensures { OnOk result
+        (Grows facts.now encoding.old encoding.new
+        (λ reason. IsPremise facts.now reason × IsOfGoal number reason)) }
 {
     let starts = facts.part().starts();
     for start in starts {
@@ -157,9 +167,11 @@ fn add_removal<'a>(
     name: &[u8],
 ) -> Result<(), AllocError>
     requires { IsRemovalOf facts.now.goals number name.now }
-    ensures { OnOk result (Grows facts.now encoding.old encoding.new (λ found. IsPremise facts.now found × IsOfGoal number found)) }
+    ensures { OnOk result
+        (Grows facts.now encoding.old encoding.new
+        (λ reason. IsPremise facts.now reason × IsOfGoal number reason)) }
 {
-    let pairs = facts.asked(Query::Named(name))?;
+    let pairs = facts.numbers_of(Query::Named(name))?;
     add_on_each(facts, encoding, number, pairs.as_slice(), false)?;
     Ok(())
 }
@@ -173,7 +185,9 @@ fn add_asked<'a>(
 ) -> Result<(), AllocError>
     requires asks { HasAt facts.now.goals number AsksForMember }
     requires literals { IsListOf (IsInPremise facts.now (premise.Goal number)) literals.now }
-    ensures { OnOk result (Grows facts.now encoding.old encoding.new (λ found. IsPremise facts.now found × IsOfGoal number found)) }
+    ensures { OnOk result
+        (Grows facts.now encoding.old encoding.new
+        (λ reason. IsPremise facts.now reason × IsOfGoal number reason)) }
 {
     encoding.add(facts, Basis::Goal(number), literals)?;
     Ok(())
@@ -187,7 +201,9 @@ fn add_goal<'a>(
     goal: &Goal,
 ) -> Result<(), AllocError>
     requires { item_at facts.now.goals number ≡ Some goal.now }
-    ensures { OnOk result (Grows facts.now encoding.old encoding.new (λ found. IsPremise facts.now found × IsOfGoal number found)) }
+    ensures { OnOk result
+        (Grows facts.now encoding.old encoding.new
+        (λ reason. IsPremise facts.now reason × IsOfGoal number reason)) }
 {
     match goal {
         Goal::Install(name, restriction) => {
@@ -205,13 +221,15 @@ fn add_goal<'a>(
     }
 }
 
-/// What each goal asks for, goal by goal. Memory alone can fail. A goal costs what `Facts::asked` says of its name, and an
+/// What each goal asks for, goal by goal. Memory alone can fail. A goal costs what `Facts::numbers_of` says of its name, and an
 /// upgrade of all that for each name of the start.
 pub(crate) fn add_goals<'a>(
     facts: &Facts<'_, '_, '_, 'a>,
     encoding: &mut Encoding<'a>,
 ) -> Result<(), AllocError>
-    ensures { OnOk result (Grows facts.now encoding.old encoding.new (λ found. IsPremise facts.now found × IsGoalAsked found)) }
+    ensures { OnOk result
+        (Grows facts.now encoding.old encoding.new
+        (λ reason. IsPremise facts.now reason × IsGoalAsked reason)) }
 {
     let goals = facts.part().goals();
     for (place, goal) in goals.iter().enumerate() {

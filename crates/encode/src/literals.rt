@@ -15,8 +15,8 @@ use std::alloc::{AllocError, Global};
 
 // Puts literals behind the others that say that the pairs of these numbers are selected.
 fn push_selected(literals: &mut Vec<Literal>, numbers: &[u32]) -> Result<(), AllocError>
-    ensures { OnOk result ((found : LiteralValue) → Contains literals.new.items found
-        ↔ (Contains literals.old.items found ⊎ SelectsOneOf numbers.now found)) }
+    ensures { OnOk result ((item : LiteralValue) → Contains literals.new.items item
+        ↔ (Contains literals.old.items item ⊎ SelectsOneOf numbers.now item)) }
 {
     for number in numbers {
         literals.push(Literal::Selected(*number))?;
@@ -29,9 +29,10 @@ pub(crate) fn some_asked(
     facts: &Facts<'_, '_, '_, '_>,
     query: Query<'_, '_>,
 ) -> Result<Vec<Literal>, AllocError>
-    ensures { IfOk result (λ literals. IsListOf (Selects facts.now (IsAsked query.entry)) literals.items) }
+    ensures { IfOk result
+        (λ literals. IsListOf (Selects facts.now (IsAsked query.entry)) literals.items) }
 {
-    let numbers = facts.asked(query)?;
+    let numbers = facts.numbers_of(query)?;
     let mut literals = Vec::new(facts.alloc());
     push_selected(&mut literals, numbers.as_slice())?;
     Ok(literals)
@@ -43,7 +44,8 @@ pub(crate) fn out_or_matching(
     number: u32,
     atoms: &[Atom<'_>],
 ) -> Result<Vec<Literal>, AllocError>
-    ensures { IfOk result (λ literals. IsListOf (IsOutOrMatching facts.now number atoms.now) literals.items) }
+    ensures { IfOk result
+        (λ literals. IsListOf (IsOutOrMatching facts.now number atoms.now) literals.items) }
 {
     let numbers = facts.matching(atoms)?;
     let mut literals = Vec::new(facts.alloc());
@@ -64,7 +66,7 @@ pub(crate) fn either_out(alloc: Global, number: u32, other: u32) -> Result<Vec<L
 
 /// This literal alone. Memory alone can fail.
 pub(crate) fn alone(alloc: Global, literal: Literal) -> Result<Vec<Literal>, AllocError>
-    ensures { IfOk result (λ literals. IsListOf (λ found. found ≡ literal) literals.items) }
+    ensures { IfOk result (λ literals. IsListOf (λ item. item ≡ literal) literals.items) }
 {
     let mut literals = Vec::new(alloc);
     literals.push(literal)?;

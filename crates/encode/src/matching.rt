@@ -16,7 +16,9 @@ use std::alloc::AllocError;
 
 // Puts the number of what is at a place behind the others, unless it is there.
 fn insert_at(numbers: &mut IndexSet<u32>, place: usize) -> Result<(), AllocError>
-    ensures { OnOk result ((number : ℕ) → Contains numbers.new.keys number ↔ (Contains numbers.old.keys number ⊎ (number ≡ place + 1))) }
+    ensures { OnOk result
+        ((number : ℕ) → Contains numbers.new.keys number
+        ↔ (Contains numbers.old.keys number ⊎ (number ≡ place + 1))) }
 {
     let number = number_at(place)?;
     numbers.insert(number)?;
@@ -37,11 +39,13 @@ fn insert_each(numbers: &mut IndexSet<u32>, places: &[usize]) -> Result<(), Allo
 impl Facts<'_, '_, '_, '_> {
     // The places of the packages that match the atom, those first that are preferred.
     fn places_matching(&self, atom: &Atom<'_>) -> Result<Vec<usize>, AllocError>
-        ensures { IfOk result (λ places. (place : ℕ) → Contains places.items place ↔ IsMatchAt (packages_of self.now.pairs) atom.now place) }
+        ensures { IfOk result
+            (λ places. (place : ℕ) → Contains places.items place
+            ↔ IsMatchAt (packages_of self.now.pairs) atom.now place) }
     {
         let mut ticks = Ticks::new();
         let places = self.providers().matching(self.alloc(), atom, &mut ticks)?;
-        let preferred = self.preferred(places, atom.name())?;
+        let preferred = self.by_preference(places, atom.name())?;
         Ok(preferred)
     }
 
@@ -52,7 +56,8 @@ impl Facts<'_, '_, '_, '_> {
         atom: &Atom<'_>,
     ) -> Result<(), AllocError>
         ensures { OnOk result ((number : ℕ) → Contains numbers.new.keys number
-            ↔ (Contains numbers.old.keys number ⊎ PairHas self.now number (λ pkg. Matches pkg atom.now))) }
+            ↔ (Contains numbers.old.keys number
+            ⊎ PairHas self.now number (λ pkg. Matches pkg atom.now))) }
     {
         let places = self.places_matching(atom)?;
         insert_each(numbers, places.as_slice())?;
@@ -62,7 +67,8 @@ impl Facts<'_, '_, '_, '_> {
     /// The numbers of the pairs whose packages match one of the atoms, each once: atom by atom, and of one atom those first
     /// that are preferred. Memory alone can fail. For each atom n log n in the n that match it.
     pub(crate) fn matching(&self, atoms: &[Atom<'_>]) -> Result<IndexSet<u32>, AllocError>
-        ensures { IfOk result (λ numbers. AreNumbersOf self.now (λ pkg. MatchesSome pkg atoms.now) numbers.keys) }
+        ensures { IfOk result
+            (λ numbers. AreNumbersOf self.now (λ pkg. MatchesSome pkg atoms.now) numbers.keys) }
     {
         let mut numbers = IndexSet::new(self.alloc());
         for atom in atoms {
@@ -83,7 +89,8 @@ impl Facts<'_, '_, '_, '_> {
 
     // Of the numbers those of pairs of other names.
     fn those_of_others(&self, numbers: &[u32], name: &[u8]) -> Result<Vec<u32>, AllocError>
-        ensures { IfOk result (λ others. others.items ≡ filter (is_of_other self.now name.now) numbers.now) }
+        ensures { IfOk result
+            (λ others. others.items ≡ filter (is_of_other self.now name.now) numbers.now) }
     {
         numbers
             .iter()

@@ -25,7 +25,9 @@ fn add_pre_depends_at<'a>(
 ) -> Result<(), AllocError>
     requires pkg { PkgIsAt facts.now number pkg.now }
     requires clause { slice_get pkg.now.relations.pre_depends place ≡ Some clause.now }
-    ensures { OnOk result (Grows facts.now encoding.old encoding.new (λ found. found ≡ premise.PreDepends number (place + 1))) }
+    ensures { OnOk result
+        (Grows facts.now encoding.old encoding.new
+        (λ reason. reason ≡ premise.PreDepends number (place + 1))) }
 {
     let _pkg = pkg;
     let atoms = clause.as_slice();
@@ -47,7 +49,9 @@ fn add_depends_at<'a>(
 ) -> Result<(), AllocError>
     requires pkg { PkgIsAt facts.now number pkg.now }
     requires clause { slice_get pkg.now.relations.depends place ≡ Some clause.now }
-    ensures { OnOk result (Grows facts.now encoding.old encoding.new (λ found. found ≡ premise.Depends number (place + 1))) }
+    ensures { OnOk result
+        (Grows facts.now encoding.old encoding.new
+        (λ reason. reason ≡ premise.Depends number (place + 1))) }
 {
     let _pkg = pkg;
     let atoms = clause.as_slice();
@@ -65,7 +69,9 @@ fn add_pre_depends<'a>(
     pkg: &Pkg<'a>,
 ) -> Result<(), AllocError>
     requires { PkgIsAt facts.now number pkg.now }
-    ensures { OnOk result (Grows facts.now encoding.old encoding.new (λ found. IsPremise facts.now found × IsPreDependsOf number found)) }
+    ensures { OnOk result
+        (Grows facts.now encoding.old encoding.new
+        (λ reason. IsPremise facts.now reason × IsPreDependsOf number reason)) }
 {
     for (place, clause) in pkg.pre_depends().iter().enumerate() {
         add_pre_depends_at(facts, encoding, number, pkg, place, clause)?;
@@ -80,7 +86,9 @@ fn add_depends<'a>(
     pkg: &Pkg<'a>,
 ) -> Result<(), AllocError>
     requires { PkgIsAt facts.now number pkg.now }
-    ensures { OnOk result (Grows facts.now encoding.old encoding.new (λ found. IsPremise facts.now found × IsDependsOf number found)) }
+    ensures { OnOk result
+        (Grows facts.now encoding.old encoding.new
+        (λ reason. IsPremise facts.now reason × IsDependsOf number reason)) }
 {
     for (place, clause) in pkg.depends().iter().enumerate() {
         add_depends_at(facts, encoding, number, pkg, place, clause)?;
@@ -96,7 +104,9 @@ fn add_needs_of<'a>(
     pkg: &Pkg<'a>,
 ) -> Result<(), AllocError>
     requires { PkgIsAt facts.now number pkg.now }
-    ensures { OnOk result (Grows facts.now encoding.old encoding.new (λ found. IsPremise facts.now found × IsNeedOf number found)) }
+    ensures { OnOk result
+        (Grows facts.now encoding.old encoding.new
+        (λ reason. IsPremise facts.now reason × IsNeedOf number reason)) }
 {
     let from = encoding.len();
     add_pre_depends(facts, encoding, number, pkg)?;
@@ -111,7 +121,9 @@ fn add_needs_at<'a>(
     encoding: &mut Encoding<'a>,
     place: usize,
 ) -> Result<(), AllocError>
-    ensures { OnOk result (Grows facts.now encoding.old encoding.new (λ found. IsPremise facts.now found × IsNeedOf (place + 1) found)) }
+    ensures { OnOk result
+        (Grows facts.now encoding.old encoding.new
+        (λ reason. IsPremise facts.now reason × IsNeedOf (place + 1) reason)) }
 {
     match facts.pkg_in(place) {
         None => Ok(()),
@@ -128,7 +140,9 @@ pub(crate) fn add_needs<'a>(
     facts: &Facts<'_, '_, '_, 'a>,
     encoding: &mut Encoding<'a>,
 ) -> Result<(), AllocError>
-    ensures { OnOk result (Grows facts.now encoding.old encoding.new (λ found. IsPremise facts.now found × IsNeed found)) }
+    ensures { OnOk result
+        (Grows facts.now encoding.old encoding.new
+        (λ reason. IsPremise facts.now reason × IsNeed reason)) }
 {
     for place in 0..facts.count() {
         add_needs_at(facts, encoding, place)?;

@@ -44,7 +44,7 @@ fn add_premises<'a>(
 }
 
 // Every premise, and what is wished.
-fn gathered<'a>(facts: &Facts<'_, '_, '_, 'a>) -> Result<Encoding<'a>, AllocError>
+fn encoding_of<'a>(facts: &Facts<'_, '_, '_, 'a>) -> Result<Encoding<'a>, AllocError>
     ensures { IfOk result (λ encoding. IsEncoding facts.now encoding) }
 {
     let count = count_of(facts)?;
@@ -63,7 +63,7 @@ pub fn encode_part<'a>(alloc: Global, part: &Part<'_, '_, 'a>) -> Result<Encodin
 {
     let lent = lend_packages(alloc, part.packages())?;
     let facts = Facts::new(alloc, part, lent.as_slice())?;
-    let encoding = gathered(&facts)?;
+    let encoding = encoding_of(&facts)?;
     Ok(encoding)
 }
 

@@ -37,11 +37,13 @@ fn add_holds<'a>(
 
 // The pairs of the version that stands, where the name is held.
 fn held_pairs(facts: &Facts<'_, '_, '_, '_>, start: &Start<'_>) -> Result<Vec<u32>, AllocError>
-    ensures { IfOk result (λ pairs. (pair : ℕ) → Contains pairs.items pair ↔ PairHas facts.now pair (IsHeldBy start.now)) }
+    ensures { IfOk result
+        (λ pairs. (pair : ℕ) → Contains pairs.items pair
+        ↔ PairHas facts.now pair (IsHeldBy start.now)) }
 {
     match start.standing() {
         Some(version) if start.is_held() => {
-            let pairs = facts.asked(Query::InVersion(start.name(), version))?;
+            let pairs = facts.numbers_of(Query::InVersion(start.name(), version))?;
             Ok(pairs)
         }
         _ => Ok(Vec::new(facts.alloc())),
@@ -54,7 +56,8 @@ fn add_hold<'a>(
     encoding: &mut Encoding<'a>,
     start: &Start<'a>,
 ) -> Result<(), AllocError>
-    ensures { OnOk result (Grows facts.now encoding.old encoding.new (IsHoldBy facts.now start.now)) }
+    ensures { OnOk result
+        (Grows facts.now encoding.old encoding.new (IsHoldBy facts.now start.now)) }
 {
     let pairs = held_pairs(facts, start)?;
     add_holds(facts, encoding, pairs.as_slice())?;
@@ -67,7 +70,9 @@ fn add_needed<'a>(
     encoding: &mut Encoding<'a>,
     name: &'a [u8],
 ) -> Result<(), AllocError>
-    ensures { OnOk result (Grows facts.now encoding.old encoding.new (λ found. found ≡ premise.Essential name.now)) }
+    ensures { OnOk result
+        (Grows facts.now encoding.old encoding.new
+        (λ reason. reason ≡ premise.Essential name.now)) }
 {
     let literals = some_asked(facts, Query::Named(name))?;
     encoding.add(facts, Basis::Essential(name), literals.as_slice())
@@ -101,7 +106,8 @@ fn add_kept<'a>(
     encoding: &mut Encoding<'a>,
     name: &'a [u8],
 ) -> Result<(), AllocError>
-    ensures { OnOk result (Grows facts.now encoding.old encoding.new (λ found. found ≡ premise.Keep name.now)) }
+    ensures { OnOk result
+        (Grows facts.now encoding.old encoding.new (λ reason. reason ≡ premise.Keep name.now)) }
 {
     let literals = some_asked(facts, Query::Named(name))?;
     encoding.add(facts, Basis::Keep(name), literals.as_slice())
@@ -122,7 +128,8 @@ fn add_keep<'a>(
     start: &Start<'a>,
 ) -> Result<(), AllocError>
     requires { IsTrue keeps ↔ Contains facts.now.goals goal.NoRemove }
-    ensures { OnOk result (Grows facts.now encoding.old encoding.new (IsKeepBy facts.now start.now)) }
+    ensures { OnOk result
+        (Grows facts.now encoding.old encoding.new (IsKeepBy facts.now start.now)) }
 {
     if !keeps {
         return Ok(());
@@ -142,7 +149,8 @@ fn add_start<'a>(
     start: &Start<'a>,
 ) -> Result<(), AllocError>
     requires { IsTrue keeps ↔ Contains facts.now.goals goal.NoRemove }
-    ensures { OnOk result (Grows facts.now encoding.old encoding.new (IsSaidBy facts.now start.now)) }
+    ensures { OnOk result
+        (Grows facts.now encoding.old encoding.new (IsSaidBy facts.now start.now)) }
 {
     add_hold(facts, encoding, start)?;
     add_essential(facts, encoding, start)?;
@@ -167,7 +175,9 @@ pub(crate) fn add_starts<'a>(
     facts: &Facts<'_, '_, '_, 'a>,
     encoding: &mut Encoding<'a>,
 ) -> Result<(), AllocError>
-    ensures { OnOk result (Grows facts.now encoding.old encoding.new (λ found. IsPremise facts.now found × IsOfStart found)) }
+    ensures { OnOk result
+        (Grows facts.now encoding.old encoding.new
+        (λ reason. IsPremise facts.now reason × IsOfStart reason)) }
 {
     let keeps = has_no_remove(facts.part().goals());
     let starts = facts.part().starts();

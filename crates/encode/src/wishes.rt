@@ -17,7 +17,7 @@ fn add_wishes_of(
 {
     for start in facts.part().starts() {
         if start.is_present() {
-            let numbers = facts.asked(Query::Named(start.name()))?;
+            let numbers = facts.numbers_of(Query::Named(start.name()))?;
             if !numbers.is_empty() && (numbers.len() == 1) == alone {
                 encoding.add_wish(numbers.as_slice())?;
             }

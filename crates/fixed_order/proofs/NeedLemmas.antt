@@ -13,14 +13,14 @@ use Rattle.rules.specs.declared.step.Rule.TheVariants as rule
 use Rattle.rules.specs.declared.step.Step.TheVariants.{Remove}
 
 -- where an installed package of another name has a clause that doesn't manage without the name, the name is needed
-pub needed_by : (db : List Record) (name : List ℕ) (found : Record) (clause : List Atom) → Contains db found → IsInstalled found
-    → found.name ≢ name → Contains (found.relations.pre_depends ++ found.relations.depends) clause
+pub needed_by : (db : List Record) (name : List ℕ) (entry : Record) (clause : List Atom) → Contains db entry → IsInstalled entry
+    → entry.name ≢ name → Contains (entry.relations.pre_depends ++ entry.relations.depends) clause
     → ¬ All (λ (removed : Record). removed.name ≡ name → IsPresent removed → IsMetWithout db removed clause) db → ¬ IsNotNeeded db name
 unfolding IsNotNeeded IsNeededByNone NeedsNot
-needed_by db name found clause there installed differ within unmet free =
+needed_by db name entry clause there installed differ within unmet free =
     unmet (All-intro (λ (removed : Record). removed.name ≡ name → IsPresent removed → IsMetWithout db removed clause) db
-    (λ removed inside same present. All-contains (IsMetWithout db removed) (found.relations.pre_depends ++ found.relations.depends) clause
-    (All-contains (λ (other : Record). other.name ≢ removed.name → NeedsNot db removed other) db found
+    (λ removed inside same present. All-contains (IsMetWithout db removed) (entry.relations.pre_depends ++ entry.relations.depends) clause
+    (All-contains (λ (other : Record). other.name ≢ removed.name → NeedsNot db removed other) db entry
     (All-contains (λ (gone : Record). gone.name ≡ name → IsPresent gone → IsNeededByNone db gone) db removed free inside same present) there
     (λ alike. differ (alike ∙ same)) installed) within))
 
@@ -33,8 +33,8 @@ allowed_unneeded u db name allowed = All-contains (RemoveAsks db name) remove_ru
     (Contains-rest rule.Essential (rule.NeededBy ∷ []) rule.NeededBy (Contains-head rule.NeededBy []))))
 
 -- what is among the rest is among the whole
-pub some_behind : {X : Type 0} (front rest : List X) (found : Option (Bor X)) → IfSome found (λ it. Contains rest it.now)
-    → IfSome found (λ it. Contains (front ++ rest) it.now)
+pub some_behind : {X : Type 0} (front rest : List X) (maybe : Option (Bor X)) → IfSome maybe (λ it. Contains rest it.now)
+    → IfSome maybe (λ it. Contains (front ++ rest) it.now)
 some_behind front rest None there = there
 some_behind front rest (Some it) there = Contains-append_right front rest it.now there
 

@@ -50,10 +50,10 @@ same_answer P false false is so = refl
 
 -- a name is among those that pass the test exactly where it is to be removed
 pub leaving_each : (members : List Pkg) (db : List Record) (name : List ℕ)
-    → Contains (map (λ (found : Record). found.name) (filter (is_to_remove members) db)) name ↔ IsToRemove members db name
+    → Contains (map (λ (entry : Record). entry.name) (filter (is_to_remove members) db)) name ↔ IsToRemove members db name
 leaving_each members db name = (
   λ within.
-      let from = Contains-map (λ (found : Record). found.name) (filter (is_to_remove members) db) name within in
+      let from = Contains-map (λ (entry : Record). entry.name) (filter (is_to_remove members) db) name within in
       let kept = Contains-filter (is_to_remove members) db from.0 from.1 in
       let both = both_true (is_present_state from.0.state) (not (is_member members from.0.name)) kept.1 in (
         Any-intro (λ (r : Record). (r.name ≡ name) × IsPresent r) db from.0 kept.0 (from.2, both.0),
@@ -61,11 +61,11 @@ leaving_each members db name = (
             ((member_test members from.0.name).1 (subst (λ (n : List ℕ). HasMember n members) (sym from.2) has)),
       ),
   λ goes. Any-elim (λ (r : Record). (r.name ≡ name) × IsPresent r) db
-      (Contains (map (λ (found : Record). found.name) (filter (is_to_remove members) db)) name)
-      (λ found there is. subst (Contains (map (λ (r : Record). r.name) (filter (is_to_remove members) db))) is.0
-      (Contains-map_intro (λ (r : Record). r.name) (filter (is_to_remove members) db) found
-      (Contains-filter_intro (is_to_remove members) db found there (both (is_present_state found.state) (is_member members found.name) is.1
-      (λ member. goes.1 (subst (λ (n : List ℕ). HasMember n members) is.0 ((member_test members found.name).0 member))))))) goes.0,
+      (Contains (map (λ (entry : Record). entry.name) (filter (is_to_remove members) db)) name)
+      (λ entry there is. subst (Contains (map (λ (r : Record). r.name) (filter (is_to_remove members) db))) is.0
+      (Contains-map_intro (λ (r : Record). r.name) (filter (is_to_remove members) db) entry
+      (Contains-filter_intro (is_to_remove members) db entry there (both (is_present_state entry.state) (is_member members entry.name) is.1
+      (λ member. goes.1 (subst (λ (n : List ℕ). HasMember n members) is.0 ((member_test members entry.name).0 member))))))) goes.0,
 )
   where
     not_both_tests : (b : Bool) → not b ≡ true → b ≡ true → ⊥
@@ -161,15 +161,15 @@ removable u db name (Some rule) unkept false is = (
 )
 
 -- the test of a record that is present
-pub to_remove_test : (members : List Pkg) (found : Record) (answer : Bool) → is_present_state found.state ≡ true
-    → (answer ≡ true) ↔ HasMember found.name members → not answer ≡ is_to_remove members found
-to_remove_test members found answer present so =
-    ap not (same_answer (HasMember found.name members) answer (is_member members found.name) so (member_test members found.name))
+pub to_remove_test : (members : List Pkg) (entry : Record) (answer : Bool) → is_present_state entry.state ≡ true
+    → (answer ≡ true) ↔ HasMember entry.name members → not answer ≡ is_to_remove members entry
+to_remove_test members entry answer present so =
+    ap not (same_answer (HasMember entry.name members) answer (is_member members entry.name) so (member_test members entry.name))
     ∙ sym (rw present refl)
 
 -- what passes the test is present
-pub to_remove_present : (members : List Pkg) (found : Record) → is_to_remove members found ≡ true → IsPresent found
-to_remove_present members found is = (both_true (is_present_state found.state) (not (is_member members found.name)) is).0
+pub to_remove_present : (members : List Pkg) (entry : Record) → is_to_remove members entry ≡ true → IsPresent entry
+to_remove_present members entry is = (both_true (is_present_state entry.state) (not (is_member members entry.name)) is).0
 
 -- The names that are left
 

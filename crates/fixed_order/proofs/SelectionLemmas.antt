@@ -80,8 +80,8 @@ table_has pkgs name =
     let all = all_put [] (map (λ (pkg : Pkg). pkg.name) pkgs) name in (
       λ within. elim (all.0 within) [
         | inl none ↦ absurd (Contains-nil name none)
-        | inr there ↦ let found = Contains-map (λ (pkg : Pkg). pkg.name) pkgs name there in
-            Any-intro (λ (pkg : Pkg). pkg.name ≡ name) pkgs found.0 found.1 found.2
+        | inr there ↦ let origin = Contains-map (λ (pkg : Pkg). pkg.name) pkgs name there in
+            Any-intro (λ (pkg : Pkg). pkg.name ≡ name) pkgs origin.0 origin.1 origin.2
       ],
       λ some. all.1 (inr (Any-elim (λ (pkg : Pkg). pkg.name ≡ name) pkgs (Contains (map (λ (pkg : Pkg). pkg.name) pkgs) name)
           (λ pkg within same. subst (Contains (map (λ (p : Pkg). p.name) pkgs)) same (Contains-map_intro (λ (p : Pkg). p.name) pkgs pkg within)) some)),
@@ -170,33 +170,33 @@ grown done left pkg true = append_assoc done (pkg ∷ []) left
 grown done left pkg false = ap (λ (d : List Pkg). d ++ left) (append-nil done)
 
 -- the pair at the place is the first of those that are left
-pub left_at : {X : Type 0} (items : List X) (place : ℕ) (found : X) → place < length items → found ≡ get_or items place found
-    → drop place items ≡ found ∷ drop (place + 1) items
-left_at {X} items place found within is = drop_more items place found within ∙ ap (λ (x : X). x ∷ drop (place + 1) items) (sym is)
+pub left_at : {X : Type 0} (items : List X) (place : ℕ) (item : X) → place < length items → item ≡ get_or items place item
+    → drop place items ≡ item ∷ drop (place + 1) items
+left_at {X} items place item within is = drop_more items place item within ∙ ap (λ (x : X). x ∷ drop (place + 1) items) (sym is)
 
 -- one pair more, which is picked if its number is marked
-pub picked_more : (marks : List Bool) (pairs : List Pair) (done more all : List Pkg) (place : ℕ) (found : Pair) (b : Bool)
-    → place < length pairs → found ≡ get_or pairs place found → marked marks (place + 1) ≡ b → more ≡ done ++ cond b (found.pkg ∷ []) []
+pub picked_more : (marks : List Bool) (pairs : List Pair) (done more all : List Pkg) (place : ℕ) (pair : Pair) (b : Bool)
+    → place < length pairs → pair ≡ get_or pairs place pair → marked marks (place + 1) ≡ b → more ≡ done ++ cond b (pair.pkg ∷ []) []
     → done ++ selected_from (place + 1) (marked marks) (drop place pairs) ≡ all
     → more ++ selected_from (place + 1 + 1) (marked marks) (drop (place + 1) pairs) ≡ all
-picked_more marks pairs done more all place found b within is mark grew so_far =
+picked_more marks pairs done more all place pair b within is mark grew so_far =
     let left : List Pkg = selected_from (place + 1 + 1) (marked marks) (drop (place + 1) pairs) in
     ap (λ (m : List Pkg). m ++ left) grew
-    ∙ grown done left found.pkg b
-    ∙ ap (λ (c : Bool). done ++ cond c (found.pkg ∷ left) left) (sym mark)
-    ∙ ap (λ (rest : List Pair). done ++ selected_from (place + 1) (marked marks) rest) (sym (left_at pairs place found within is))
+    ∙ grown done left pair.pkg b
+    ∙ ap (λ (c : Bool). done ++ cond c (pair.pkg ∷ left) left) (sym mark)
+    ∙ ap (λ (rest : List Pair). done ++ selected_from (place + 1) (marked marks) rest) (sym (left_at pairs place pair within is))
     ∙ so_far
 
 -- one pair more, which is kept if it doesn't stand
-pub away_more : (start : List Record) (pairs : List (Bor Pair)) (done more all : List Pkg) (place : ℕ) (found : Bor Pair) (b : Bool)
-    → place < length pairs → found ≡ get_or pairs place found → is_away start found.now.pkg ≡ b
-    → more ≡ done ++ cond b (found.now.pkg ∷ []) []
+pub away_more : (start : List Record) (pairs : List (Bor Pair)) (done more all : List Pkg) (place : ℕ) (lent : Bor Pair) (b : Bool)
+    → place < length pairs → lent ≡ get_or pairs place lent → is_away start lent.now.pkg ≡ b
+    → more ≡ done ++ cond b (lent.now.pkg ∷ []) []
     → done ++ filter (is_away start) (pkgs_of (drop place pairs)) ≡ all
     → more ++ filter (is_away start) (pkgs_of (drop (place + 1) pairs)) ≡ all
-away_more start pairs done more all place found b within is test grew so_far =
+away_more start pairs done more all place lent b within is test grew so_far =
     let left : List Pkg = filter (is_away start) (pkgs_of (drop (place + 1) pairs)) in
     ap (λ (m : List Pkg). m ++ left) grew
-    ∙ grown done left found.now.pkg b
-    ∙ ap (λ (c : Bool). done ++ cond c (found.now.pkg ∷ left) left) (sym test)
-    ∙ ap (λ (rest : List (Bor Pair)). done ++ filter (is_away start) (pkgs_of rest)) (sym (left_at pairs place found within is))
+    ∙ grown done left lent.now.pkg b
+    ∙ ap (λ (c : Bool). done ++ cond c (lent.now.pkg ∷ left) left) (sym test)
+    ∙ ap (λ (rest : List (Bor Pair)). done ++ filter (is_away start) (pkgs_of rest)) (sym (left_at pairs place lent within is))
     ∙ so_far

@@ -19,11 +19,11 @@ use Rattle.fixed_order.specs.Turn.{AsksBefore, AsksBeforeBy, AsksOnly, AsksOnlyB
 use mathlib.Core.Logic.{inl, inr}
 
 -- what matches the clause is of such a name, where all that does is
-pub matched_only : (P : List ℕ → Type 0) (db : List Record) (clause : List Atom) (found : Record) → Contains db found → IsPresent found
-    → MatchesSome (pkg_of found) clause → All (λ atom. All (IsOneBy P atom) db) clause → P found.name
+pub matched_only : (P : List ℕ → Type 0) (db : List Record) (clause : List Atom) (entry : Record) → Contains db entry → IsPresent entry
+    → MatchesSome (pkg_of entry) clause → All (λ atom. All (IsOneBy P atom) db) clause → P entry.name
 unfolding MatchesSome
-matched_only P db clause found there present matches all = Any-elim (Matches (pkg_of found)) clause (P found.name)
-    (λ atom inside fits. All-contains (IsOneBy P atom) db found
+matched_only P db clause entry there present matches all = Any-elim (Matches (pkg_of entry)) clause (P entry.name)
+    (λ atom inside fits. All-contains (IsOneBy P atom) db entry
     (All-contains (λ a. All (IsOneBy P a) db) clause atom all inside) there present fits) matches
 
 module _ (rank : List ℕ → ℕ) (db : List Record) (group part : List (List ℕ)) (name : List ℕ)
@@ -227,7 +227,7 @@ unfolding AsksOnly AsksOnlyBy ComesBefore
 asks_in_ring db name = All-intro (λ member. member.name ≡ name → All (AsksBeforeBy (λ n. 1) db name) member.relations.depends) db
     (λ member inside same. All-intro (AsksBeforeBy (λ n. 1) db name) member.relations.depends (λ clause there.
     inr (All-intro (λ atom. All (ComesBeforeBy (λ n. 1) name atom) db) clause (λ atom within.
-    All-intro (ComesBeforeBy (λ n. 1) name atom) db (λ found here present matches. inr (inr (refl, refl)))))))
+    All-intro (ComesBeforeBy (λ n. 1) name atom) db (λ entry here present matches. inr (inr (refl, refl)))))))
 
 -- all names are rings at most
 pub all_ringed : (db : List Record) (names rings : List (List ℕ)) → rings ≡ names → HasRings db names rings

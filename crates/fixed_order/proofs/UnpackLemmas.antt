@@ -42,7 +42,7 @@ stanzas_of_unpacks u [] = refl
 stanzas_of_unpacks u (pkg ∷ pkgs) = ap (λ (rest : List (Option IndexPackage)). stanza_of u pkg ∷ rest) (stanzas_of_unpacks u pkgs)
 
 -- the package of a lent pair is one of the packages
-pub named_at : (pairs : List (Bor Pair)) (place : ℕ) (found : Bor Pair) → AreNamed (pkgs_of pairs) → place < length pairs
-    → found ≡ get_or pairs place found → IsTrue (is_name found.now.pkg.name)
-named_at pairs place found named within is = All-contains (λ (pkg : Pkg). IsTrue (is_name pkg.name)) (pkgs_of pairs) found.now.pkg named
-    (Contains-map_intro (λ (pair : Bor Pair). pair.now.pkg) pairs found (place, within, sym is))
+pub named_at : (pairs : List (Bor Pair)) (place : ℕ) (lent : Bor Pair) → AreNamed (pkgs_of pairs) → place < length pairs
+    → lent ≡ get_or pairs place lent → IsTrue (is_name lent.now.pkg.name)
+named_at pairs place lent named within is = All-contains (λ (pkg : Pkg). IsTrue (is_name pkg.name)) (pkgs_of pairs) lent.now.pkg named
+    (Contains-map_intro (λ (pair : Bor Pair). pair.now.pkg) pairs lent (place, within, sym is))

@@ -31,7 +31,7 @@ use Rattle.fixed_order.specs.Askers.{HasWhatItAsks, IsAsking, asking_in}
 use Rattle.fixed_order.specs.Names.{AreAllWith}
 use Rattle.fixed_order.specs.Selection.{marked}
 use Rattle.fixed_order.specs.Turn.{AsksBefore, AsksOnly, AsksOnlyBy, ComesBefore, IsOneBy}
-use Rattle.fixed_order.specs.Waiting.{AscendWith, IsKnownIn, IsLookedAtAgain, IsWaitingIn}
+use Rattle.fixed_order.specs.Waiting.{AscendWith, IsKnownIn, IsMarkedAnew, IsWaitingIn}
 use Rattle.fixed_order.specs.declared.askers.Askers.{Askers}
 use Rattle.fixed_order.specs.declared.waiting.Waiting.{Waiting}
 use Rattle.fixed_order.proofs.TurnLemmas.{matched_only}
@@ -56,12 +56,12 @@ module _ (group : List (List ℕ)) (db : List Record)
       let kept = Contains-filter (λ (r : Record). is_installed_state r.state) db from.0 from.1 in
       subst (Contains (installed_of behind)) from.2 (at from.0 kept.0 kept.1 (is_among group from.0) refl)
     where
-      at : (found : Record) → Contains db found → IsInstalled found → (b : Bool) → is_among group found ≡ b
-          → Contains (installed_of behind) (pkg_of found)
-      at found there is true among = installed_contains behind (configured found)
-          (changed_has (is_among group) configured db found there among) refl
-      at found there is false apart = installed_contains behind found
-          (changed_keeps (is_among group) configured db found there apart) is
+      at : (entry : Record) → Contains db entry → IsInstalled entry → (b : Bool) → is_among group entry ≡ b
+          → Contains (installed_of behind) (pkg_of entry)
+      at entry there is true among = installed_contains behind (configured entry)
+          (changed_has (is_among group) configured db entry there among) refl
+      at entry there is false apart = installed_contains behind entry
+          (changed_keeps (is_among group) configured db entry there apart) is
 
   -- Pre-Depends that are installed stay so
   pre_depends_kept : (names : List (List ℕ)) → ArePreDependsInstalled db names → ArePreDependsInstalled behind names
@@ -76,11 +76,11 @@ module _ (group : List (List ℕ)) (db : List Record)
   module _ (P : List ℕ → Type 0) where
     -- what is of such a name is so still
     one_kept : (atom : Atom) → All (IsOneBy P atom) db → All (IsOneBy P atom) behind
-    one_kept atom all = All-intro (IsOneBy P atom) behind (λ found within.
-        elim (changed_each (is_among group) configured db found within) [
+    one_kept atom all = All-intro (IsOneBy P atom) behind (λ entry within.
+        elim (changed_each (is_among group) configured db entry within) [
           | inl made ↦ subst (IsOneBy P atom) made.3
               (λ is matches. All-contains (IsOneBy P atom) db made.0 all made.1 (present made.0 made.1 made.2) matches)
-          | inr left ↦ All-contains (IsOneBy P atom) db found all left.0
+          | inr left ↦ All-contains (IsOneBy P atom) db entry all left.0
         ])
 
     clause_kept : (clause : List Atom) → AsksOnlyBy P db clause → AsksOnlyBy P behind clause
@@ -93,12 +93,12 @@ module _ (group : List (List ℕ)) (db : List Record)
     asks_kept : (name : List ℕ) → AsksOnly P db name → AsksOnly P behind name
     unfolding AsksOnly
     asks_kept name asks = All-intro (λ member. member.name ≡ name → All (AsksOnlyBy P behind) member.relations.depends) behind
-        (λ found within. elim (changed_each (is_among group) configured db found within) [
+        (λ entry within. elim (changed_each (is_among group) configured db entry within) [
           | inl made ↦ subst (λ (m : Record). m.name ≡ name → All (AsksOnlyBy P behind) m.relations.depends) made.3
               (λ same. more made.0.relations.depends
               (All-contains (λ m. m.name ≡ name → All (AsksOnlyBy P db) m.relations.depends) db made.0 asks made.1 same))
-          | inr left ↦ λ same. more found.relations.depends
-              (All-contains (λ m. m.name ≡ name → All (AsksOnlyBy P db) m.relations.depends) db found asks left.0 same)
+          | inr left ↦ λ same. more entry.relations.depends
+              (All-contains (λ m. m.name ≡ name → All (AsksOnlyBy P db) m.relations.depends) db entry asks left.0 same)
         ])
       where
         more : (clauses : List (List Atom)) → All (AsksOnlyBy P db) clauses → All (AsksOnlyBy P behind) clauses
@@ -106,31 +106,31 @@ module _ (group : List (List ℕ)) (db : List Record)
 
     module _ (apart : (asked : List ℕ) → Contains group asked → ¬ P asked) (name : List ℕ) where
       -- a record that is configured isn't to be configured
-      settled : (old found : Record) → configured old ≡ found → ¬ IsConfigurable found
-      settled old found is may = absurd (let e : false ≡ true = (subst IsConfigurable (sym is) may).0 in cc)
+      settled : (old entry : Record) → configured old ≡ entry → ¬ IsConfigurable entry
+      settled old entry is may = absurd (let e : false ≡ true = (subst IsConfigurable (sym is) may).0 in cc)
 
       -- what may be configured behind the change isn't of the group, and might be before it
       outside : HasConfigurable behind name → ¬ Contains group name
       unfolding HasConfigurable
-      outside some within = Any-elim (λ found. (found.name ≡ name) × IsConfigurable found) behind ⊥ (λ found there is.
-          elim (changed_each (is_among group) configured db found there) [
-            | inl made ↦ settled made.0 found made.3 is.1
-            | inr left ↦ true≢false (sym (is_among-contains group found (subst (Contains group) (sym is.0) within)) ∙ left.1)
+      outside some within = Any-elim (λ entry. (entry.name ≡ name) × IsConfigurable entry) behind ⊥ (λ entry there is.
+          elim (changed_each (is_among group) configured db entry there) [
+            | inl made ↦ settled made.0 entry made.3 is.1
+            | inr left ↦ true≢false (sym (is_among-contains group entry (subst (Contains group) (sym is.0) within)) ∙ left.1)
           ]) some
 
       configurable_before : HasConfigurable behind name → HasConfigurable db name
       unfolding HasConfigurable
-      configurable_before some = Any-elim (λ found. (found.name ≡ name) × IsConfigurable found) behind
-          (Any (λ found. (found.name ≡ name) × IsConfigurable found) db) (λ found there is.
-          elim (changed_each (is_among group) configured db found there) [
-            | inl made ↦ absurd (settled made.0 found made.3 is.1)
-            | inr left ↦ Any-intro (λ (r : Record). (r.name ≡ name) × IsConfigurable r) db found left.0 is
+      configurable_before some = Any-elim (λ entry. (entry.name ≡ name) × IsConfigurable entry) behind
+          (Any (λ entry. (entry.name ≡ name) × IsConfigurable entry) db) (λ entry there is.
+          elim (changed_each (is_among group) configured db entry there) [
+            | inl made ↦ absurd (settled made.0 entry made.3 is.1)
+            | inr left ↦ Any-intro (λ (r : Record). (r.name ≡ name) × IsConfigurable r) db entry left.0 is
           ]) some
 
-      named : (found : Record) → Contains (name ∷ []) found.name → found.name ≡ name
-      named found within = elim (Contains-cons name [] found.name within) [
+      named : (entry : Record) → Contains (name ∷ []) entry.name → entry.name ≡ name
+      named entry within = elim (Contains-cons name [] entry.name within) [
         | inl same ↦ sym same
-        | inr none ↦ absurd (Contains-nil found.name none)
+        | inr none ↦ absurd (Contains-nil entry.name none)
       ]
 
       -- a package that is installed behind the change and matches the clause was so before
@@ -231,7 +231,7 @@ pre_depends_of db names name within all =
 -- what is known of what waits is so behind the change, where the names that ask for one of the group are marked anew
 known_left : (group : List (List ℕ)) (db : List Record) (waiting left : Waiting) (places : List ℕ)
     → ((old : Record) → Contains db old → is_among group old ≡ true → IsPresent old) → IsKnownIn db waiting
-    → IsLookedAtAgain (changed (is_among group) configured db) places waiting left
+    → IsMarkedAnew (changed (is_among group) configured db) places waiting left
     → All (λ name. All (Contains places) (asking_in waiting.askers name)) group → IsKnownIn (changed (is_among group) configured db) left
 unfolding IsAsking
 known_left group db waiting left places present known looked all = record {
@@ -264,7 +264,7 @@ marked_at db waiting names place name was same within is so passes = (was.known 
 -- behind a configure that is allowed what waited waits still, where the names that ask for one of its group are marked anew
 pub waiting_left : (u : Universe) (start : List Record) (members : List Pkg) (db : List Record) (group : List (List ℕ))
     (waiting left : Waiting) (places : List ℕ) → IsUnderway u start members db → Allowed u db (Configure group) → IsWaitingIn db waiting
-    → IsLookedAtAgain (after u db (Configure group)) places waiting left
+    → IsMarkedAnew (after u db (Configure group)) places waiting left
     → All (λ name. All (Contains places) (asking_in waiting.askers name)) group → IsWaitingIn (after u db (Configure group)) left
 waiting_left u start members db group waiting left places underway allowed was looked all = record {
   names = subst (AscendWith (unconfigured_of (after u db (Configure group)))) (sym looked.names) (record {

@@ -1,6 +1,6 @@
 pub mod Names
 pub mod Selection
-pub mod Ground
+pub mod Problem
 pub mod Removal
 pub mod Purge
 pub mod Walked

@@ -29,7 +29,7 @@ ComesBefore rank name other = (name ≡ other) ⊎ IsBelow (rank name) (rank oth
 
 -- the record, if it is present and matches the atom, is of such a name
 abbrev pub IsOneBy : (List ℕ → Type 0) → Atom → Record → Type 0
-IsOneBy P atom found = IsPresent found → Matches (pkg_of found) atom → P found.name
+IsOneBy P atom entry = IsPresent entry → Matches (pkg_of entry) atom → P entry.name
 
 -- an installed package meets the clause, or what matches it is of such names
 unfoldable pub AsksOnlyBy : (List ℕ → Type 0) → List Record → List Atom → Type 0

@@ -28,7 +28,7 @@ pub record IsWaitingIn (db : List Record) (waiting : Waiting) : Type 0 where
   pub known : waiting.is_known ≡ true → IsKnownIn db waiting
 
 -- the names at these places are marked anew, and all else is as it was
-pub record IsLookedAtAgain (db : List Record) (places : List ℕ) (old new : Waiting) : Type 0 where
+pub record IsMarkedAnew (db : List Record) (places : List ℕ) (old new : Waiting) : Type 0 where
   pub names : new.names.items ≡ old.names.items
   pub rings : new.rings.names.items ≡ old.rings.names.items
   pub askers : new.askers ≡ old.askers

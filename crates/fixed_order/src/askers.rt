@@ -53,12 +53,12 @@ impl<'a> Askers<'a> {
         atoms: &[Atom<'_>],
     ) -> Result<(), AllocError> {
         for atom in atoms {
-            for found in db.holders(atom.name()) {
-                if found
+            for entry in db.holders(atom.name()) {
+                if entry
                     .present_pkg()
                     .is_some_and(|there| atom.matched_by(there))
                 {
-                    self.note(found.name(), place)?;
+                    self.note(entry.name(), place)?;
                 }
             }
         }
@@ -87,10 +87,10 @@ impl<'a> Askers<'a> {
         place: usize,
         name: &[u8],
     ) -> Result<(), AllocError> {
-        for found in db.holders(name) {
-            if is_same(found.name(), name) {
-                self.note(found.name(), place)?;
-                self.read_clauses(db, place, found.depends())?;
+        for entry in db.holders(name) {
+            if is_same(entry.name(), name) {
+                self.note(entry.name(), place)?;
+                self.read_clauses(db, place, entry.depends())?;
             }
         }
         Ok(())
@@ -125,7 +125,9 @@ impl<'a> Askers<'a> {
 
     /// The places of all that ask for a name of the group. Memory alone can fail.
     pub(crate) fn of_group(&self, group: &[Name]) -> Result<Vec<usize>, AllocError>
-        ensures { IfOk result (λ places. All (λ name. All (Contains places.items) (asking_in self.now name)) group.now) }
+        ensures { IfOk result
+            (λ places. All
+            (λ name. All (Contains places.items) (asking_in self.now name)) group.now) }
     {
         let mut places = Vec::new(self.alloc);
         for name in group {
@@ -144,13 +146,13 @@ impl<'a> Askers<'a> {
 }
 
 // Whether the record isn't present, doesn't match the atom, or the name at the place is one of those that ask for it.
-fn is_noted(askers: &Askers<'_>, place: usize, atom: &Atom<'_>, found: &StateRecord<'_, '_>) -> bool
-    ensures { IsTrue result ↔ (IsPresent found.now → Matches (pkg_of found.now) atom.now
-        → IsAsking askers.now place found.now.name) }
+fn is_noted(askers: &Askers<'_>, place: usize, atom: &Atom<'_>, entry: &StateRecord<'_, '_>) -> bool
+    ensures { IsTrue result ↔ (IsPresent entry.now → Matches (pkg_of entry.now) atom.now
+        → IsAsking askers.now place entry.now.name) }
 {
-    match found.present_pkg() {
+    match entry.present_pkg() {
         None => true,
-        Some(there) => !atom.matched_by(there) || askers.has(found.name(), place),
+        Some(there) => !atom.matched_by(there) || askers.has(entry.name(), place),
     }
 }
 
@@ -158,12 +160,12 @@ fn all_are_noted(
     askers: &Askers<'_>,
     place: usize,
     atom: &Atom<'_>,
-    mut found: Holders<'_, '_, '_>,
+    mut holders: Holders<'_, '_, '_>,
 ) -> bool
-    ensures { IsTrue result ↔ All (λ found. IsPresent found → Matches (pkg_of found) atom.now
-        → IsAsking askers.now place found.name) found.entry }
+    ensures { IsTrue result ↔ All (λ entry. IsPresent entry → Matches (pkg_of entry) atom.now
+        → IsAsking askers.now place entry.name) holders.entry }
 {
-    found.all(|found| is_noted(askers, place, atom, found))
+    holders.all(|entry| is_noted(askers, place, atom, entry))
 }
 
 // Whether of all that matches the atom it is noted that the name at the place asks for it.
@@ -179,7 +181,8 @@ fn are_atoms_noted(
     place: usize,
     atoms: &[Atom<'_>],
 ) -> bool
-    ensures { IsTrue result ↔ All (λ atom. All (IsOneBy (IsAsking askers.now place) atom) db.now) atoms.now }
+    ensures { IsTrue result
+        ↔ All (λ atom. All (IsOneBy (IsAsking askers.now place) atom) db.now) atoms.now }
 {
     atoms
         .iter()
@@ -234,7 +237,8 @@ fn are_others_or_noted(
     name: &[u8],
 ) -> bool
     ensures { IsTrue result ↔ All (λ member. member.name ≡ name.now
-        → All (AsksOnlyBy (IsAsking askers.now place) db.now) member.relations.depends) members.entry }
+        → All (AsksOnlyBy
+        (IsAsking askers.now place) db.now) member.relations.depends) members.entry }
 {
     members.all(|member| is_other_or_noted(db, askers, place, name, member))
 }

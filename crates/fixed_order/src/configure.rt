@@ -10,15 +10,15 @@ ghost use Rattle.plancheck_group.specs.Part.{IsPartWith};
 ghost use Rattle.plain.specs.Change.{HasNothingToRemove};
 ghost use Rattle.plain.specs.Order.{AreConfigures, IsConfigurableGroup, IsLeastGroup, after_all};
 ghost use Rattle.plain.specs.Walk.{IsOnWalk};
-ghost use Rattle.fixed_order.specs.Ground.{IsGround, IsUnderwayOn, members_in};
+ghost use Rattle.fixed_order.specs.Problem.{IsProblem, IsUnderwayOn, members_in};
 ghost use Rattle.fixed_order.specs.Alone.{IsFirstWith, MayPass, NoneIsBroken, PassesAlone, is_below};
 ghost use Rattle.fixed_order.specs.Waiting.{IsWaitingIn};
 ghost use Rattle.fixed_order.specs.Selection.{marked};
 ghost use Rattle.fixed_order.specs.Walked.{IsBeginning, IsFalling, IsWalkedTo};
 
-use crate::ground::Ground;
 use crate::key::{Key, from_greatest};
 use crate::marks::{have_what_they_ask, is_marked};
+use crate::problem::Problem;
 use crate::turn::copies;
 use crate::waiting::Waiting;
 use plancheck::apply;
@@ -39,7 +39,8 @@ fn passes_alone(db: &Records<'_, '_>, name: &Name) -> bool
 // The same of the name at the place, of which nothing is asked where it isn't marked though that is known.
 fn passes_at(db: &Records<'_, '_>, waiting: &Waiting<'_>, place: usize, name: &Name) -> bool
     requires unbroken { NoneIsBroken db.now }
-    requires marked { waiting.now.is_known ≡ true → PassesAlone db.now name.now → marked waiting.now.marks.items place ≡ true }
+    requires marked { waiting.now.is_known ≡ true → PassesAlone db.now name.now
+        → marked waiting.now.marks.items place ≡ true }
     ensures { IsTrue result ↔ PassesAlone db.now name.now }
 {
     if waiting.is_known && !is_marked(waiting.marks.as_slice(), place) {
@@ -88,7 +89,8 @@ fn lower_names(
     names: &[Name],
     bound: Option<&Name>,
 ) -> Result<Vec<Name>, AllocError>
-    ensures { IfOk result (λ lower. IsPartWith (MayPass db.now (option_copied bound.entry)) names.now lower.items) }
+    ensures { IfOk result
+        (λ lower. IsPartWith (MayPass db.now (option_copied bound.entry)) names.now lower.items) }
 {
     let mut lower = Vec::new(alloc);
     for name in names {
@@ -216,7 +218,8 @@ fn part_without(
 ) -> Result<Vec<Name>, AllocError>
     requires within { Contains group.now key.now }
     requires whole { whole ≡ true → IsIndivisible db.now group.now }
-    ensures part { IfOk result (λ part. IsGreatestPart db.now (others_of key.now group.now) part.items) }
+    ensures part { IfOk result
+        (λ part. IsGreatestPart db.now (others_of key.now group.now) part.items) }
     ensures none { IfOk result (λ part. whole ≡ true → part.items ≡ []) }
 {
     if whole {
@@ -228,7 +231,7 @@ fn part_without(
 }
 
 // Keeps the name, or leaves it out where some of the others pass without it; none do where no part of the group passes.
-fn look_at(
+fn keep_or_leave(
     alloc: Global,
     db: &Records<'_, '_>,
     walk: &mut Walk,
@@ -237,7 +240,9 @@ fn look_at(
 ) -> Result<(), AllocError>
     requires within { Contains walk.old.group.items key.now }
     requires whole { whole ≡ true → IsIndivisible db.now walk.old.group.items }
-    ensures walked { OnOk result ((left : List (List ℕ)) → IsWalkedTo db.now (key.now ∷ left) walk.old.kept.items walk.old.group.items
+    ensures walked { OnOk result
+        ((left : List (List ℕ))
+        → IsWalkedTo db.now (key.now ∷ left) walk.old.kept.items walk.old.group.items
         → IsWalkedTo db.now left walk.new.kept.items walk.new.group.items) }
     ensures whole { OnOk result (whole ≡ true → IsIndivisible db.now walk.new.group.items) }
 {
@@ -259,20 +264,22 @@ fn walk_on(
     key: &Key<'_>,
 ) -> Result<(), AllocError>
     requires { whole ≡ true → IsIndivisible db.now walk.old.group.items }
-    ensures walked { OnOk result ((left : List (List ℕ)) → IsWalkedTo db.now (key.now ∷ left) walk.old.kept.items walk.old.group.items
+    ensures walked { OnOk result
+        ((left : List (List ℕ))
+        → IsWalkedTo db.now (key.now ∷ left) walk.old.kept.items walk.old.group.items
         → IsWalkedTo db.now left walk.new.kept.items walk.new.group.items) }
     ensures whole { OnOk result (whole ≡ true → IsIndivisible db.now walk.new.group.items) }
 {
     if !has(walk.group.as_slice(), key.name()) {
         return Ok(());
     }
-    look_at(alloc, db, walk, whole, key)
+    keep_or_leave(alloc, db, walk, whole, key)
 }
 
 // The least group that is among the parts of this one, which passes; the names are looked at from the greatest down. Where no
 // part passes, which is asked once, none is asked for.
-fn walked(
-    ground: &Ground<'_, '_, '_, '_>,
+fn least_group_among(
+    problem: &Problem<'_, '_, '_, '_>,
     db: &Records<'_, '_>,
     down: &[Key<'_>],
     whole: bool,
@@ -281,15 +288,15 @@ fn walked(
     requires falls { IsFalling group.now down.now }
     requires walk { IsOnWalk db.now [] group.now }
     requires whole { whole ≡ true → IsIndivisible db.now group.now }
-    ensures { IfOk result (IsLeastGroup ground.now.universe.now db.now) }
+    ensures { IfOk result (IsLeastGroup problem.now.universe.now db.now) }
 {
-    let copied = copies(ground.alloc, group)?;
+    let copied = copies(problem.alloc, group)?;
     let mut walk = Walk {
-        kept: Vec::new(ground.alloc),
+        kept: Vec::new(problem.alloc),
         group: copied,
     };
     for key in down {
-        walk_on(ground.alloc, db, &mut walk, whole, key)?;
+        walk_on(problem.alloc, db, &mut walk, whole, key)?;
     }
     Ok(Names::new(walk.kept))
 }
@@ -313,47 +320,49 @@ fn is_whole(
 
 // The least group that may be configured, if there is one.
 fn least_group<'p, 'a>(
-    ground: &Ground<'_, '_, 'p, 'a>,
+    problem: &Problem<'_, '_, 'p, 'a>,
     db: &Records<'p, 'a>,
     waiting: &Waiting<'a>,
 ) -> Result<Option<Names>, AllocError>
     requires waiting { IsWaitingIn db.now waiting.now }
     requires unbroken { NoneIsBroken db.now }
     ensures { IfOk result (λ group. MatchOption group
-        ((names : List (List ℕ)) → ¬ IsConfigurableGroup ground.now.universe.now db.now names)
-        (IsLeastGroup ground.now.universe.now db.now)) }
+        ((names : List (List ℕ)) → ¬ IsConfigurableGroup problem.now.universe.now db.now names)
+        (IsLeastGroup problem.now.universe.now db.now)) }
 {
-    let group = first_group(ground.alloc, db, waiting)?;
+    let group = first_group(problem.alloc, db, waiting)?;
     if group.is_empty() {
         return Ok(None);
     }
     let names = group.as_slice();
-    let whole = is_whole(ground.alloc, db, waiting.rings.most, names)?;
-    let down = from_greatest(ground.alloc, names)?;
-    let least = walked(ground, db, down.as_slice(), whole, names)?;
+    let whole = is_whole(problem.alloc, db, waiting.rings.most, names)?;
+    let down = from_greatest(problem.alloc, names)?;
+    let least = least_group_among(problem, db, down.as_slice(), whole, names)?;
     Ok(Some(least))
 }
 
 // Takes the configures, and answers them.
 fn configures_of<'p, 'a>(
-    ground: &Ground<'_, '_, 'p, 'a>,
+    problem: &Problem<'_, '_, 'p, 'a>,
     db: &mut Records<'p, 'a>,
     waiting: Waiting<'a>,
 ) -> Result<Vec<Step>, AllocError>
-    requires ground { IsGround ground.now }
+    requires problem { IsProblem problem.now }
     requires waiting { IsWaitingIn db.old waiting }
-    requires underway { IsUnderwayOn ground.now db.old }
-    requires nothing { HasNothingToRemove (members_in ground.now) db.old }
-    ensures configures { IfOk result (λ steps. AreConfigures ground.now.universe.now db.old steps.items) }
-    ensures after { IfOk result (λ steps. db.new ≡ after_all ground.now.universe.now db.old steps.items) }
+    requires underway { IsUnderwayOn problem.now db.old }
+    requires nothing { HasNothingToRemove (members_in problem.now) db.old }
+    ensures configures { IfOk result
+        (λ steps. AreConfigures problem.now.universe.now db.old steps.items) }
+    ensures after { IfOk result
+        (λ steps. db.new ≡ after_all problem.now.universe.now db.old steps.items) }
 {
     let mut waiting = waiting;
-    let mut steps = Vec::new(ground.alloc);
-    while let Some(names) = least_group(ground, db, &waiting)? {
+    let mut steps = Vec::new(problem.alloc);
+    while let Some(names) = least_group(problem, db, &waiting)? {
         let places = waiting.askers.of_group(names.as_slice())?;
         let step = Step::Configure(names);
-        apply(db, ground.universe, None, &step)?;
-        waiting.look_again(db, places.as_slice());
+        apply(db, problem.universe, None, &step)?;
+        waiting.mark_anew(db, places.as_slice());
         steps.push(step)?;
     }
     Ok(steps)
@@ -364,16 +373,18 @@ fn configures_of<'p, 'a>(
 /// `plancheck_group::greatest_part` does of those of them that come before that one; only where some of these pass a walk over the
 /// group is made, which costs as much again for each name of a group that is no least one. Memory alone can fail.
 pub(crate) fn configures<'p, 'a>(
-    ground: &Ground<'_, '_, 'p, 'a>,
+    problem: &Problem<'_, '_, 'p, 'a>,
     db: &mut Records<'p, 'a>,
 ) -> Result<Vec<Step>, AllocError>
-    requires ground { IsGround ground.now }
-    requires underway { IsUnderwayOn ground.now db.old }
-    requires nothing { HasNothingToRemove (members_in ground.now) db.old }
-    ensures configures { IfOk result (λ steps. AreConfigures ground.now.universe.now db.old steps.items) }
-    ensures after { IfOk result (λ steps. db.new ≡ after_all ground.now.universe.now db.old steps.items) }
+    requires problem { IsProblem problem.now }
+    requires underway { IsUnderwayOn problem.now db.old }
+    requires nothing { HasNothingToRemove (members_in problem.now) db.old }
+    ensures configures { IfOk result
+        (λ steps. AreConfigures problem.now.universe.now db.old steps.items) }
+    ensures after { IfOk result
+        (λ steps. db.new ≡ after_all problem.now.universe.now db.old steps.items) }
 {
-    let waiting = Waiting::read(ground, db)?;
-    let steps = configures_of(ground, db, waiting)?;
+    let waiting = Waiting::read(problem, db)?;
+    let steps = configures_of(problem, db, waiting)?;
     Ok(steps)
 }

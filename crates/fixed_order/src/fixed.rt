@@ -5,14 +5,14 @@ ghost use Rattle.rules.specs.Sound.{selected};
 ghost use Rattle.rules.specs.Universe.{listed_for};
 ghost use Rattle.plain.specs.Change.{IsPlainChange};
 ghost use Rattle.plain.specs.Order.{IsInFixedOrder, to_unpack, unpack_of};
-ghost use Rattle.fixed_order.specs.Ground.{IsGround, members_in};
+ghost use Rattle.fixed_order.specs.Problem.{IsProblem, members_in};
 ghost use Rattle.rules.specs.Names.{HasNames, HasPairNames};
 ghost use Rattle.refutation.specs.Selection.{selects};
 ghost use Rattle.fixed_order.specs.Selection.{pkgs_of};
 
 use crate::configure::configures;
-use crate::ground::Ground;
 use crate::members::Members;
+use crate::problem::Problem;
 use crate::purge::purges;
 use crate::removal::removals;
 use crate::selection::selected_pairs;
@@ -24,13 +24,15 @@ use std::alloc::{AllocError, Global};
 use universe::{Pair, Universe};
 
 // The steps of the four phases, one phase after another.
-fn joined(
+fn join_phases(
     unpacks: Vec<Step>,
     removals: Vec<Step>,
     configures: Vec<Step>,
     purges: Vec<Step>,
 ) -> Result<Vec<Step>, AllocError>
-    ensures { IfOk result (λ steps. steps.items ≡ unpacks.items ++ (removals.items ++ (configures.items ++ purges.items))) }
+    ensures { IfOk result
+        (λ steps. steps.items ≡ unpacks.items
+        ++ (removals.items ++ (configures.items ++ purges.items))) }
 {
     let mut steps = unpacks;
     let mut removals = removals;
@@ -44,22 +46,25 @@ fn joined(
 
 // The steps that begin with these unpacks, whose stanzas are read already.
 fn steps_on<'p, 'a>(
-    ground: &Ground<'_, '_, 'p, 'a>,
+    problem: &Problem<'_, '_, 'p, 'a>,
     unpacks: Vec<Step>,
     stanzas: &'p [Option<IndexPackage<'a>>],
 ) -> Result<Vec<Step>, AllocError>
-    requires ground { IsGround ground.now }
-    requires unpacks { unpacks.items ≡ map unpack_of (to_unpack ground.now.start.now (members_in ground.now)) }
-    requires stanzas { stanzas.now ≡ map (listed_for ground.now.universe.now) unpacks.items }
-    ensures { IfOk result (λ steps. IsInFixedOrder ground.now.universe.now ground.now.start.now (members_in ground.now) steps.items) }
+    requires problem { IsProblem problem.now }
+    requires unpacks { unpacks.items
+        ≡ map unpack_of (to_unpack problem.now.start.now (members_in problem.now)) }
+    requires stanzas { stanzas.now ≡ map (listed_for problem.now.universe.now) unpacks.items }
+    ensures { IfOk result
+        (λ steps. IsInFixedOrder problem.now.universe.now problem.now.start.now
+        (members_in problem.now) steps.items) }
 {
-    let records = try_copy(ground.alloc, ground.start.as_slice())?;
-    let mut db = Records::new(ground.alloc, records)?;
-    take_all(&mut db, ground.universe, unpacks.as_slice(), stanzas)?;
-    let removals = removals(ground, &mut db)?;
-    let configures = configures(ground, &mut db)?;
-    let purges = purges(ground.alloc, &db, ground.universe)?;
-    let steps = joined(unpacks, removals, configures, purges)?;
+    let records = try_copy(problem.alloc, problem.start.as_slice())?;
+    let mut db = Records::new(problem.alloc, records)?;
+    take_all(&mut db, problem.universe, unpacks.as_slice(), stanzas)?;
+    let removals = removals(problem, &mut db)?;
+    let configures = configures(problem, &mut db)?;
+    let purges = purges(problem.alloc, &db, problem.universe)?;
+    let steps = join_phases(unpacks, removals, configures, purges)?;
     Ok(steps)
 }
 
@@ -77,19 +82,22 @@ fn steps_with<'p, 'a>(
     requires start_names { HasNames start.now }
     requires pair_names { HasPairNames universe.now }
     requires pairs { pkgs_of pairs.now ≡ selected universe.now (selects selection.now) }
-    requires unpacks { unpacks.items ≡ map unpack_of (to_unpack start.now (selected universe.now (selects selection.now))) }
+    requires unpacks { unpacks.items
+        ≡ map unpack_of (to_unpack start.now (selected universe.now (selects selection.now))) }
     requires stanzas { stanzas.now ≡ map (listed_for universe.now) unpacks.items }
-    ensures { IfOk result (λ steps. IsInFixedOrder universe.now start.now (selected universe.now (selects selection.now)) steps.items) }
+    ensures { IfOk result
+        (λ steps. IsInFixedOrder universe.now start.now
+        (selected universe.now (selects selection.now)) steps.items) }
 {
     let members = Members::of_pairs(alloc, pairs)?;
-    let ground = Ground {
+    let problem = Problem {
         alloc,
         start,
         universe,
         selection,
         members: &members,
     };
-    let steps = steps_on(&ground, unpacks, stanzas)?;
+    let steps = steps_on(&problem, unpacks, stanzas)?;
     Ok(steps)
 }
 
@@ -106,7 +114,9 @@ pub fn fixed_order<'p, 'a>(
     requires change { IsPlainChange universe.now start.now (selects selection.now) }
     requires start_names { HasNames start.now }
     requires pair_names { HasPairNames universe.now }
-    ensures { IfOk result (λ steps. IsInFixedOrder universe.now start.now (selected universe.now (selects selection.now)) steps.items) }
+    ensures { IfOk result
+        (λ steps. IsInFixedOrder universe.now start.now
+        (selected universe.now (selects selection.now)) steps.items) }
 {
     let pairs = selected_pairs(alloc, universe, selection)?;
     let away = to_unpack(alloc, start, pairs.as_slice())?;

@@ -6,11 +6,11 @@
 mod askers;
 mod configure;
 mod fixed;
-mod ground;
 mod key;
 mod marks;
 mod members;
 mod needs;
+mod problem;
 mod purge;
 mod ranks;
 mod removal;

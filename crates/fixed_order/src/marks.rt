@@ -14,7 +14,8 @@ use std::slice::from_ref;
 
 /// Whether the names of a group may be configured and what they ask for is installed, or theirs.
 pub(crate) fn have_what_they_ask(db: &Records<'_, '_>, group: &[Name]) -> bool
-    ensures { IsTrue result ↔ (AreConfigurable db.now group.now × AreDependsInstalled db.now group.now
+    ensures { IsTrue result
+        ↔ (AreConfigurable db.now group.now × AreDependsInstalled db.now group.now
         × ArePreDependsInstalled db.now group.now) }
 {
     are_configurable(db, group)
@@ -49,7 +50,8 @@ pub(crate) fn marks_of(
 fn set(marks: &mut Vec<bool>, place: usize, value: bool)
     requires { place < length marks.old.items }
     ensures long { length marks.new.items ≡ length marks.old.items }
-    ensures kept { (other : ℕ) → other ≢ place → marked marks.new.items other ≡ marked marks.old.items other }
+    ensures kept { (other : ℕ) → other ≢ place → marked marks.new.items other
+        ≡ marked marks.old.items other }
     ensures written { marked marks.new.items place ≡ value }
 {
     marks[place] = value;
@@ -59,7 +61,8 @@ fn set(marks: &mut Vec<bool>, place: usize, value: bool)
 fn mark(db: &Records<'_, '_>, names: &[Name], marks: &mut Vec<bool>, place: usize)
     requires { length marks.old.items ≡ length names.now }
     ensures long { length marks.new.items ≡ length names.now }
-    ensures anew { AreMarkedAnew (λ other. other ≡ place) db.now names.now marks.old.items marks.new.items }
+    ensures anew { AreMarkedAnew
+        (λ other. other ≡ place) db.now names.now marks.old.items marks.new.items }
 {
     if place < names.len() {
         let value = has_what_it_asks(db, &names[place]);
@@ -76,7 +79,8 @@ pub(crate) fn mark_each(
 )
     requires { length marks.old.items ≡ length names.now }
     ensures long { length marks.new.items ≡ length names.now }
-    ensures anew { AreMarkedAnew (Contains places.now) db.now names.now marks.old.items marks.new.items }
+    ensures anew { AreMarkedAnew
+        (Contains places.now) db.now names.now marks.old.items marks.new.items }
 {
     for place in places {
         mark(db, names, marks, *place);

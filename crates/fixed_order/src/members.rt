@@ -48,7 +48,9 @@ impl<'a> Members<'a> {
         alloc: Global,
         pairs: &[&Pair<'_, 'a>],
     ) -> Result<Members<'a>, AllocError>
-        ensures { IfOk result (λ members. (name : List ℕ) → Contains members name ↔ HasMember name (pkgs_of pairs.now)) }
+        ensures { IfOk result
+            (λ members. (name : List ℕ) → Contains members name
+            ↔ HasMember name (pkgs_of pairs.now)) }
     {
         let mut members = Members::new(alloc);
         for pair in pairs {

@@ -30,25 +30,27 @@ pub(crate) struct Needs<'n> {
 }
 
 // The clause of this number among the Pre-Depends and Depends of the record.
-fn clause_at<'f, 'a>(found: &'f StateRecord<'_, 'a>, number: usize) -> Option<&'f Clause<'a>>
-    ensures { IfSome result (λ clause. Contains (found.now.relations.pre_depends ++ found.now.relations.depends) clause.now) }
+fn clause_at<'f, 'a>(entry: &'f StateRecord<'_, 'a>, number: usize) -> Option<&'f Clause<'a>>
+    ensures { IfSome result
+        (λ clause. Contains
+        (entry.now.relations.pre_depends ++ entry.now.relations.depends) clause.now) }
 {
-    let first = found.pre_depends();
+    let first = entry.pre_depends();
     match first.get(number) {
         Some(clause) => Some(clause),
-        None => found.depends().get(number.saturating_sub(first.len())),
+        None => entry.depends().get(number.saturating_sub(first.len())),
     }
 }
 
 // Whether the record is of another name and installed, and its clause of this number doesn't manage without the name.
-fn needs_by(db: &Records<'_, '_>, name: &[u8], found: &StateRecord<'_, '_>, number: usize) -> bool
-    requires { Contains db.now found.now }
+fn needs_by(db: &Records<'_, '_>, name: &[u8], entry: &StateRecord<'_, '_>, number: usize) -> bool
+    requires { Contains db.now entry.now }
     ensures { IsTrue result → ¬ IsNotNeeded db.now name.now }
 {
-    if !found.state().is_installed() || is_same(found.name(), name) {
+    if !entry.state().is_installed() || is_same(entry.name(), name) {
         return false;
     }
-    match clause_at(found, number) {
+    match clause_at(entry, number) {
         Some(clause) => !is_met_without(db, name, clause),
         None => false,
     }
@@ -59,14 +61,14 @@ fn is_need(db: &Records<'_, '_>, name: &[u8], need: Need) -> bool
     ensures { IsTrue result → ¬ IsNotNeeded db.now name.now }
 {
     match db.as_slice().get(need.place) {
-        Some(found) => needs_by(db, name, found, need.number),
+        Some(entry) => needs_by(db, name, entry, need.number),
         None => false,
     }
 }
 
 // Whether the package matches the clause of this number.
-fn is_matched(found: &StateRecord<'_, '_>, number: usize, there: &Pkg<'_>) -> bool {
-    match clause_at(found, number) {
+fn is_matched(entry: &StateRecord<'_, '_>, number: usize, there: &Pkg<'_>) -> bool {
+    match clause_at(entry, number) {
         Some(clause) => matches_some(there, clause.as_slice()),
         None => false,
     }
@@ -74,17 +76,17 @@ fn is_matched(found: &StateRecord<'_, '_>, number: usize, there: &Pkg<'_>) -> bo
 
 // The first clause of the record at the place that needs the name, whose package this is.
 fn need_at(db: &Records<'_, '_>, name: &[u8], there: &Pkg<'_>, place: usize) -> Option<Need> {
-    let found = db.as_slice().get(place)?;
-    if !found.state().is_installed() {
+    let entry = db.as_slice().get(place)?;
+    if !entry.state().is_installed() {
         return None;
     }
-    let clauses = found
+    let clauses = entry
         .pre_depends()
         .len()
-        .saturating_add(found.depends().len());
+        .saturating_add(entry.depends().len());
     for number in 0..clauses {
         let need = Need { place, number };
-        if is_matched(found, number, there) && is_need(db, name, need) {
+        if is_matched(entry, number, there) && is_need(db, name, need) {
             return Some(need);
         }
     }
@@ -108,9 +110,9 @@ fn need_among(
 
 // The package of the name, if it is present.
 fn pkg_named<'p, 'a>(db: &Records<'p, 'a>, name: &[u8]) -> Option<&'p Pkg<'a>> {
-    for found in db.holders(name) {
-        if is_same(found.name(), name) {
-            return found.present_pkg();
+    for entry in db.holders(name) {
+        if is_same(entry.name(), name) {
+            return entry.present_pkg();
         }
     }
     None

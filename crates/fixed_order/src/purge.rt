@@ -14,7 +14,8 @@ use universe::Universe;
 
 // The name that the goal asks to purge and of which configuration files alone are left, if there is one.
 fn purge_by<'u>(db: &Records<'_, '_>, asked: &'u Goal) -> Option<Key<'u>>
-    ensures { MatchOption result ((name : List ℕ) → ¬ IsToPurgeBy db.now asked.now name) (IsToPurgeBy db.now asked.now) }
+    ensures { MatchOption result ((name : List ℕ) → ¬ IsToPurgeBy db.now asked.now name)
+        (IsToPurgeBy db.now asked.now) }
 {
     match asked {
         Goal::Purge(name) if is_removed(db, name.as_bytes()) => Some(Key::new(name.as_bytes())),
@@ -57,7 +58,9 @@ pub(crate) fn purges(
     db: &Records<'_, '_>,
     universe: &Universe<'_, '_>,
 ) -> Result<Vec<Step>, AllocError>
-    ensures { IfOk result (λ steps. (names : List (List ℕ)) × ArePurges universe.now db.now names × (steps.items ≡ map Purge names)) }
+    ensures { IfOk result
+        (λ steps. (names : List (List ℕ)) × ArePurges universe.now db.now names
+        × (steps.items ≡ map Purge names)) }
 {
     let asked = purges_by(alloc, db, universe.goals())?;
     let keys = in_order(asked)?;

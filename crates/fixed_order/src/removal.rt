@@ -10,13 +10,13 @@ ghost use Rattle.rules.specs.declared.step.Step.TheVariants.{Remove};
 ghost use Rattle.plain.specs.Change.{HasNothingToRemove, IsToRemove};
 ghost use Rattle.plain.specs.Order.{AreRemovals, IsNextRemoval, after_all};
 ghost use Rattle.plain.specs.Underway.{is_to_remove};
-ghost use Rattle.fixed_order.specs.Ground.{IsGround, IsUnderwayOn, members_in};
+ghost use Rattle.fixed_order.specs.Problem.{IsProblem, IsUnderwayOn, members_in};
 ghost use Rattle.fixed_order.specs.Names.{AreAllWith};
 ghost use Rattle.fixed_order.specs.Removal.{IsLeastOf, is_other, left_by};
 
-use crate::ground::Ground;
 use crate::key::{Key, in_order};
 use crate::needs::Needs;
+use crate::problem::Problem;
 use crate::state::is_installed;
 use plancheck::apply;
 use plancheck_state::{Records, StateRecord};
@@ -25,27 +25,27 @@ use std::alloc::AllocError;
 use universe::Universe;
 
 // Whether the record is of a name to be removed.
-fn is_to_remove(ground: &Ground<'_, '_, '_, '_>, found: &StateRecord<'_, '_>) -> bool
-    requires { IsGround ground.now }
-    ensures { result ≡ is_to_remove (members_in ground.now) found.now }
+fn is_to_remove(problem: &Problem<'_, '_, '_, '_>, entry: &StateRecord<'_, '_>) -> bool
+    requires { IsProblem problem.now }
+    ensures { result ≡ is_to_remove (members_in problem.now) entry.now }
 {
-    found.state().is_present() && !ground.members.has(found.name())
+    entry.state().is_present() && !problem.members.has(entry.name())
 }
 
 // The names to be removed, in the order of the records.
 fn leaving<'p, 'a>(
-    ground: &Ground<'_, '_, 'p, 'a>,
+    problem: &Problem<'_, '_, 'p, 'a>,
     db: &Records<'p, 'a>,
 ) -> Result<Vec<Key<'a>>, AllocError>
-    requires ground { IsGround ground.now }
-    requires underway { IsUnderwayOn ground.now db.now }
+    requires problem { IsProblem problem.now }
+    requires underway { IsUnderwayOn problem.now db.now }
     ensures { IfOk result (λ keys. keys.items
-        ≡ map (λ found. found.name) (filter (is_to_remove (members_in ground.now)) db.now)) }
+        ≡ map (λ entry. entry.name) (filter (is_to_remove (members_in problem.now)) db.now)) }
 {
-    let mut keys = Vec::new(ground.alloc);
-    for found in db.as_slice() {
-        if is_to_remove(ground, found) {
-            keys.push(Key::new(found.name()))?;
+    let mut keys = Vec::new(problem.alloc);
+    for entry in db.as_slice() {
+        if is_to_remove(problem, entry) {
+            keys.push(Key::new(entry.name()))?;
         }
     }
     Ok(keys)
@@ -53,14 +53,15 @@ fn leaving<'p, 'a>(
 
 // The names to be removed, in their order.
 fn to_remove<'p, 'a>(
-    ground: &Ground<'_, '_, 'p, 'a>,
+    problem: &Problem<'_, '_, 'p, 'a>,
     db: &Records<'p, 'a>,
 ) -> Result<Vec<Key<'a>>, AllocError>
-    requires ground { IsGround ground.now }
-    requires underway { IsUnderwayOn ground.now db.now }
-    ensures { IfOk result (λ keys. AreAllWith (IsToRemove (members_in ground.now) db.now) keys.items) }
+    requires problem { IsProblem problem.now }
+    requires underway { IsUnderwayOn problem.now db.now }
+    ensures { IfOk result
+        (λ keys. AreAllWith (IsToRemove (members_in problem.now) db.now) keys.items) }
 {
-    let keys = leaving(ground, db)?;
+    let keys = leaving(problem, db)?;
     let ordered = in_order(keys)?;
     Ok(ordered)
 }
@@ -73,7 +74,7 @@ fn least_removable<'k, 'n>(
     needs: &mut Needs<'n>,
 ) -> Result<Option<&'k Key<'n>>, AllocError>
     requires { IsAscending keys.now }
-    ensures { IfOk result (λ found. MatchOption found
+    ensures { IfOk result (λ least. MatchOption least
         (All (λ name. ¬ Allowed universe.now db.now (Remove name)) keys.now)
         (λ key. IsLeastOf (λ name. Allowed universe.now db.now (Remove name)) keys.now key.now)) }
 {
@@ -103,21 +104,22 @@ fn least_installed<'k, 'n>(db: &Records<'_, '_>, keys: &'k [Key<'n>]) -> Option<
 
 // The next of the removals, if a name is to be removed.
 fn next_removal<'p, 'a>(
-    ground: &Ground<'_, '_, 'p, 'a>,
+    problem: &Problem<'_, '_, 'p, 'a>,
     db: &Records<'p, 'a>,
     keys: &[Key<'a>],
     needs: &mut Needs<'a>,
 ) -> Result<Option<Step>, AllocError>
-    requires ground { IsGround ground.now }
-    requires underway { IsUnderwayOn ground.now db.now }
-    requires keys { AreAllWith (IsToRemove (members_in ground.now) db.now) keys.now }
-    ensures { IfOk result (λ step. MatchOption step (HasNothingToRemove (members_in ground.now) db.now)
-        (IsNextRemoval ground.now.universe.now (members_in ground.now) db.now)) }
+    requires problem { IsProblem problem.now }
+    requires underway { IsUnderwayOn problem.now db.now }
+    requires keys { AreAllWith (IsToRemove (members_in problem.now) db.now) keys.now }
+    ensures { IfOk result
+        (λ step. MatchOption step (HasNothingToRemove (members_in problem.now) db.now)
+        (IsNextRemoval problem.now.universe.now (members_in problem.now) db.now)) }
 {
-    match least_removable(db, ground.universe, keys, needs)? {
-        Some(key) => Ok(Some(Step::Remove(key.try_name(ground.alloc)?))),
+    match least_removable(db, problem.universe, keys, needs)? {
+        Some(key) => Ok(Some(Step::Remove(key.try_name(problem.alloc)?))),
         None => match least_installed(db, keys) {
-            Some(key) => Ok(Some(Step::Deconfigure(key.try_name(ground.alloc)?))),
+            Some(key) => Ok(Some(Step::Deconfigure(key.try_name(problem.alloc)?))),
             None => Ok(None),
         },
     }
@@ -151,21 +153,24 @@ fn leave_removed(keys: &mut Vec<Key<'_>>, step: &Step)
 /// removed, up to the one that goes: no more than the look at one clause, but for a name that goes or of which that clause
 /// doesn't need it any more. Memory alone can fail.
 pub(crate) fn removals<'p, 'a>(
-    ground: &Ground<'_, '_, 'p, 'a>,
+    problem: &Problem<'_, '_, 'p, 'a>,
     db: &mut Records<'p, 'a>,
 ) -> Result<Vec<Step>, AllocError>
-    requires ground { IsGround ground.now }
-    requires underway { IsUnderwayOn ground.now db.old }
-    ensures removals { IfOk result (λ steps. AreRemovals ground.now.universe.now (members_in ground.now) db.old steps.items) }
-    ensures after { IfOk result (λ steps. db.new ≡ after_all ground.now.universe.now db.old steps.items) }
-    ensures underway { IfOk result (λ _. IsUnderwayOn ground.now db.new) }
-    ensures nothing { IfOk result (λ _. HasNothingToRemove (members_in ground.now) db.new) }
+    requires problem { IsProblem problem.now }
+    requires underway { IsUnderwayOn problem.now db.old }
+    ensures removals { IfOk result
+        (λ steps. AreRemovals problem.now.universe.now
+        (members_in problem.now) db.old steps.items) }
+    ensures after { IfOk result
+        (λ steps. db.new ≡ after_all problem.now.universe.now db.old steps.items) }
+    ensures underway { IfOk result (λ _. IsUnderwayOn problem.now db.new) }
+    ensures nothing { IfOk result (λ _. HasNothingToRemove (members_in problem.now) db.new) }
 {
-    let mut keys = to_remove(ground, db)?;
-    let mut needs = Needs::new(ground.alloc);
-    let mut steps = Vec::new(ground.alloc);
-    while let Some(step) = next_removal(ground, db, keys.as_slice(), &mut needs)? {
-        apply(db, ground.universe, None, &step)?;
+    let mut keys = to_remove(problem, db)?;
+    let mut needs = Needs::new(problem.alloc);
+    let mut steps = Vec::new(problem.alloc);
+    while let Some(step) = next_removal(problem, db, keys.as_slice(), &mut needs)? {
+        apply(db, problem.universe, None, &step)?;
         leave_removed(&mut keys, &step);
         steps.push(step)?;
     }

@@ -77,7 +77,7 @@ impl<'n> Asking<'n> {
 struct Walk {
     next: Vec<Vec<usize>>,
     seen: Vec<bool>,
-    way: Vec<usize>,
+    path: Vec<usize>,
     left: Vec<usize>,
 }
 
@@ -90,7 +90,7 @@ impl Walk {
         Ok(Walk {
             next,
             seen,
-            way: Vec::new(alloc),
+            path: Vec::new(alloc),
             left: Vec::new(alloc),
         })
     }
@@ -99,7 +99,7 @@ impl Walk {
     fn enter(&mut self, place: usize) -> Result<(), AllocError> {
         if self.seen.get(place) == Some(&false) {
             self.seen[place] = true;
-            self.way.push(place)?;
+            self.path.push(place)?;
         }
         Ok(())
     }
@@ -114,12 +114,12 @@ impl Walk {
 
     // Goes on by one, or leaves a place. Answers whether some place was on the way.
     fn go_on(&mut self) -> Result<bool, AllocError> {
-        let Some(place) = self.way.pop() else {
+        let Some(place) = self.path.pop() else {
             return Ok(false);
         };
         match self.next_of(place) {
             Some(next) => {
-                self.way.push(place)?;
+                self.path.push(place)?;
                 self.enter(next)?;
             }
             None => self.left.push(place)?,

@@ -11,7 +11,8 @@ use universe::{Pair, Universe};
 // Marks the number, if it has a place.
 fn mark(marks: &mut Vec<bool>, number: usize)
     ensures long { length marks.new.items ≡ length marks.old.items }
-    ensures kept { (other : ℕ) → other ≢ number → marked marks.new.items other ≡ marked marks.old.items other }
+    ensures kept { (other : ℕ) → other ≢ number → marked marks.new.items other
+        ≡ marked marks.old.items other }
     ensures written { number < length marks.old.items → marked marks.new.items number ≡ true }
 {
     if number < marks.len() {
@@ -38,20 +39,22 @@ pub(crate) fn add<'u, 'p, 'a>(
     chosen: &mut Vec<&'u Pair<'p, 'a>>,
     pair: &'u Pair<'p, 'a>,
 ) -> Result<(), AllocError>
-    ensures { OnOk result (pkgs_of chosen.new.items ≡ pkgs_of chosen.old.items ++ pair.now.pkg ∷ []) }
+    ensures { OnOk result
+        (pkgs_of chosen.new.items ≡ pkgs_of chosen.old.items ++ pair.now.pkg ∷ []) }
 {
     chosen.push(pair)?;
     Ok(())
 }
 
 // The pairs whose numbers, counted from 1, are marked.
-fn picked<'u, 'p, 'a>(
+fn marked_pairs<'u, 'p, 'a>(
     alloc: Global,
     pairs: &'u [Pair<'p, 'a>],
     marks: &[bool],
 ) -> Result<Vec<&'u Pair<'p, 'a>>, AllocError>
     requires { length marks.now ≡ length pairs.now + 1 }
-    ensures { IfOk result (λ chosen. pkgs_of chosen.items ≡ selected_from 1 (marked marks.now) pairs.now) }
+    ensures { IfOk result
+        (λ chosen. pkgs_of chosen.items ≡ selected_from 1 (marked marks.now) pairs.now) }
 {
     let mut chosen = Vec::new(alloc);
     for (place, pair) in pairs.iter().enumerate() {
@@ -69,10 +72,11 @@ pub(crate) fn selected_pairs<'u, 'p, 'a>(
     universe: &'u Universe<'p, 'a>,
     selection: &[u32],
 ) -> Result<Vec<&'u Pair<'p, 'a>>, AllocError>
-    ensures { IfOk result (λ chosen. pkgs_of chosen.items ≡ selected universe.now (selects selection.now)) }
+    ensures { IfOk result
+        (λ chosen. pkgs_of chosen.items ≡ selected universe.now (selects selection.now)) }
 {
     let pairs = universe.pairs();
     let marks = marks_of(alloc, pairs.len(), selection)?;
-    let chosen = picked(alloc, pairs, marks.as_slice())?;
+    let chosen = marked_pairs(alloc, pairs, marks.as_slice())?;
     Ok(chosen)
 }

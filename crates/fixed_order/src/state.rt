@@ -6,16 +6,16 @@ ghost use Rattle.rules.specs.Database.{HasRecord, IsInstalled, IsRemoved};
 
 use plancheck_state::{Holders, Records, StateRecord, is_same};
 
-fn is_installed_name(found: &StateRecord<'_, '_>, name: &[u8]) -> bool
-    ensures { IsTrue result ↔ ((found.now.name ≡ name.now) × IsInstalled found.now) }
+fn is_installed_name(entry: &StateRecord<'_, '_>, name: &[u8]) -> bool
+    ensures { IsTrue result ↔ ((entry.now.name ≡ name.now) × IsInstalled entry.now) }
 {
-    is_same(found.name(), name) && found.state().is_installed()
+    is_same(entry.name(), name) && entry.state().is_installed()
 }
 
-fn some_is_installed(mut found: Holders<'_, '_, '_>, name: &[u8]) -> bool
-    ensures { IsTrue result ↔ HasRecord IsInstalled name.now found.entry }
+fn some_is_installed(mut holders: Holders<'_, '_, '_>, name: &[u8]) -> bool
+    ensures { IsTrue result ↔ HasRecord IsInstalled name.now holders.entry }
 {
-    found.any(|found| is_installed_name(found, name))
+    holders.any(|entry| is_installed_name(entry, name))
 }
 
 /// Whether the name is installed. Linear in the records that have or provide it.
@@ -25,16 +25,16 @@ pub(crate) fn is_installed(db: &Records<'_, '_>, name: &[u8]) -> bool
     some_is_installed(db.holders(name), name)
 }
 
-fn is_removed_name(found: &StateRecord<'_, '_>, name: &[u8]) -> bool
-    ensures { IsTrue result ↔ ((found.now.name ≡ name.now) × IsRemoved found.now) }
+fn is_removed_name(entry: &StateRecord<'_, '_>, name: &[u8]) -> bool
+    ensures { IsTrue result ↔ ((entry.now.name ≡ name.now) × IsRemoved entry.now) }
 {
-    is_same(found.name(), name) && found.state().is_removed()
+    is_same(entry.name(), name) && entry.state().is_removed()
 }
 
-fn some_is_removed(mut found: Holders<'_, '_, '_>, name: &[u8]) -> bool
-    ensures { IsTrue result ↔ HasRecord IsRemoved name.now found.entry }
+fn some_is_removed(mut holders: Holders<'_, '_, '_>, name: &[u8]) -> bool
+    ensures { IsTrue result ↔ HasRecord IsRemoved name.now holders.entry }
 {
-    found.any(|found| is_removed_name(found, name))
+    holders.any(|entry| is_removed_name(entry, name))
 }
 
 /// Whether configuration files alone are left of the name. Linear in the records that have or provide it.

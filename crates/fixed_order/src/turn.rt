@@ -20,14 +20,14 @@ fn comes_before(
     ranks: &Ranks<'_>,
     name: &[u8],
     atom: &Atom<'_>,
-    found: &StateRecord<'_, '_>,
+    entry: &StateRecord<'_, '_>,
 ) -> bool
-    ensures { IsTrue result ↔ (IsPresent found.now → Matches (pkg_of found.now) atom.now
-        → ComesBefore (rank_in ranks.now) found.now.name name.now) }
+    ensures { IsTrue result ↔ (IsPresent entry.now → Matches (pkg_of entry.now) atom.now
+        → ComesBefore (rank_in ranks.now) entry.now.name name.now) }
 {
-    match found.present_pkg() {
+    match entry.present_pkg() {
         None => true,
-        Some(there) => !atom.matched_by(there) || ranks.comes_before(found.name(), name),
+        Some(there) => !atom.matched_by(there) || ranks.comes_before(entry.name(), name),
     }
 }
 
@@ -35,12 +35,12 @@ fn all_come_before(
     ranks: &Ranks<'_>,
     name: &[u8],
     atom: &Atom<'_>,
-    mut found: Holders<'_, '_, '_>,
+    mut holders: Holders<'_, '_, '_>,
 ) -> bool
-    ensures { IsTrue result ↔ All (λ found. IsPresent found → Matches (pkg_of found) atom.now
-        → ComesBefore (rank_in ranks.now) found.name name.now) found.entry }
+    ensures { IsTrue result ↔ All (λ entry. IsPresent entry → Matches (pkg_of entry) atom.now
+        → ComesBefore (rank_in ranks.now) entry.name name.now) holders.entry }
 {
-    found.all(|found| comes_before(ranks, name, atom, found))
+    holders.all(|entry| comes_before(ranks, name, atom, entry))
 }
 
 // Whether all that matches the atom comes before the name.
@@ -56,7 +56,8 @@ fn asks_atoms_before(
     name: &[u8],
     atoms: &[Atom<'_>],
 ) -> bool
-    ensures { IsTrue result ↔ All (λ atom. All (ComesBeforeBy (rank_in ranks.now) name.now atom) db.now) atoms.now }
+    ensures { IsTrue result
+        ↔ All (λ atom. All (ComesBeforeBy (rank_in ranks.now) name.now atom) db.now) atoms.now }
 {
     atoms
         .iter()
@@ -109,7 +110,8 @@ fn are_others_or_ask_before(
     name: &[u8],
 ) -> bool
     ensures { IsTrue result ↔ All (λ member. member.name ≡ name.now
-        → All (AsksBeforeBy (rank_in ranks.now) db.now name.now) member.relations.depends) members.entry }
+        → All (AsksBeforeBy
+        (rank_in ranks.now) db.now name.now) member.relations.depends) members.entry }
 {
     members.all(|member| is_other_or_asks_before(db, ranks, name, member))
 }
@@ -131,7 +133,7 @@ fn ask_before(db: &Records<'_, '_>, ranks: &Ranks<'_>, names: &[Name]) -> bool
 }
 
 // The names that are in rings, copied.
-fn ringed(alloc: Global, ranks: &Ranks<'_>, names: &[Name]) -> Result<Vec<Name>, AllocError>
+fn ring_names(alloc: Global, ranks: &Ranks<'_>, names: &[Name]) -> Result<Vec<Name>, AllocError>
     ensures { IfOk result (λ rings. rings.items ≡ filter (is_ringed ranks.now) names.now) }
 {
     let mut rings = Vec::new(alloc);
@@ -174,9 +176,12 @@ pub(crate) fn rings_of(
 {
     let ranks = ranks_of(alloc, askers, names)?;
     if ask_before(db, &ranks, names) {
-        let found = ringed(alloc, &ranks, names)?;
+        let members = ring_names(alloc, &ranks, names)?;
         let most = ranks.most();
-        return Ok(Rings { names: found, most });
+        return Ok(Rings {
+            names: members,
+            most,
+        });
     }
     let all = copies(alloc, names)?;
     Ok(Rings {

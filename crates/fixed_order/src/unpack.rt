@@ -89,7 +89,8 @@ pub(crate) fn stanzas_of<'a>(
     universe: &Universe<'_, 'a>,
     pairs: &[&Pair<'_, '_>],
 ) -> Result<Vec<Option<IndexPackage<'a>>>, AllocError>
-    ensures { IfOk result (λ stanzas. stanzas.items ≡ map (stanza_of universe.now) (pkgs_of pairs.now)) }
+    ensures { IfOk result
+        (λ stanzas. stanzas.items ≡ map (stanza_of universe.now) (pkgs_of pairs.now)) }
 {
     let mut stanzas = Vec::new(alloc);
     for pair in pairs {
@@ -105,7 +106,8 @@ fn stanza_at<'p, 'a>(
     place: usize,
 ) -> Option<&'p IndexPackage<'a>>
     requires { place < length stanzas.now }
-    ensures { (none : Option IndexPackageValue) → option_copied result ≡ get_or stanzas.now place none }
+    ensures { (none : Option IndexPackageValue) → option_copied result
+        ≡ get_or stanzas.now place none }
 {
     stanzas[place].as_ref()
 }

@@ -22,7 +22,7 @@ use Rattle.rules.specs.declared.step.Step.{Step}
 use Rattle.rules.specs.declared.step.Step.TheVariants as step
 use Rattle.rules.proofs.EndLemmas.{both_true}
 use Rattle.rules.proofs.QuietLemmas.{the_named, the_record}
-use Rattle.forward_steps.specs.Door.{IsTaken, Moves}
+use Rattle.forward_steps.specs.PartialPlan.{IsTaken, Moves}
 use Rattle.forward_steps.specs.Forward.{IsForward}
 use Rattle.forward_steps.specs.Selection.{IsOneEach}
 use Rattle.forward_steps.specs.Work.{is_standing, work_in, work_left, work_with}
@@ -31,32 +31,32 @@ use Rattle.forward_steps.proofs.WorkLemmas.{present_work, some_work, unconfigure
 
 -- A record that a change by a test doesn't touch, or does
 
-untouched : (test : Record → Bool) (change : Record → Record) (db : List Record) (found : Record) → Contains db found
-    → test found ≡ false → Contains (changed test change db) found
-untouched test change db found within fails =
+untouched : (test : Record → Bool) (change : Record → Record) (db : List Record) (entry : Record) → Contains db entry
+    → test entry ≡ false → Contains (changed test change db) entry
+untouched test change db entry within fails =
     subst (Contains (changed test change db)) (rw fails refl)
-    (Contains-map_intro (λ (r : Record). cond (test r) (change r) r) db found within)
+    (Contains-map_intro (λ (r : Record). cond (test r) (change r) r) db entry within)
 
-touched : (test : Record → Bool) (change : Record → Record) (db : List Record) (found : Record) → Contains db found
-    → test found ≡ true → Contains (changed test change db) (change found)
-touched test change db found within passes =
+touched : (test : Record → Bool) (change : Record → Record) (db : List Record) (entry : Record) → Contains db entry
+    → test entry ≡ true → Contains (changed test change db) (change entry)
+touched test change db entry within passes =
     subst (Contains (changed test change db)) (rw passes refl)
-    (Contains-map_intro (λ (r : Record). cond (test r) (change r) r) db found within)
+    (Contains-map_intro (λ (r : Record). cond (test r) (change r) r) db entry within)
 
 -- a test of names fails at another name
-other_name : (name : List ℕ) (found : Record) → found.name ≢ name → is_named name found ≡ false
-other_name name found differs = at (is_named name found) refl
+other_name : (name : List ℕ) (entry : Record) → entry.name ≢ name → is_named name entry ≡ false
+other_name name entry differs = at (is_named name entry) refl
   where
-    at : (b : Bool) → is_named name found ≡ b → b ≡ false
+    at : (b : Bool) → is_named name entry ≡ b → b ≡ false
     at false is = refl
-    at true is = absurd (differs (bytes_eq-true found.name name is))
+    at true is = absurd (differs (bytes_eq-true entry.name name is))
 
 -- a package of another name stands after where it stood before
 standing_elsewhere : (name : List ℕ) (change : Record → Record) (pkg : Pkg) (db : List Record) → pkg.name ≢ name
     → list_any (is_standing pkg) db ≡ true → list_any (is_standing pkg) (changed (is_named name) change db) ≡ true
 standing_elsewhere name change pkg db differs = standing_kept pkg db (changed (is_named name) change db)
-    (λ found within is. let parts = standing_parts pkg found is in
-    (found, untouched (is_named name) change db found within (other_name name found (λ same. differs (sym parts.0 ∙ same))), is))
+    (λ entry within is. let parts = standing_parts pkg entry is in
+    (entry, untouched (is_named name) change db entry within (other_name name entry (λ same. differs (sym parts.0 ∙ same))), is))
 
 -- Unpacking
 
@@ -68,11 +68,11 @@ module _ (selected : List Pkg) (db : List Record) (listed : IndexPackage) where
     where
       at : (b : Bool) → list_any (is_named listed.pkg.name) db ≡ b → list_any (is_standing pkg)
           (cond b (changed (is_named listed.pkg.name) (unpacked_over listed) db) (db ++ unpacked_with listed None ∷ [])) ≡ true
-      at true some = Any-elim (λ found. is_named listed.pkg.name found ≡ true) db
+      at true some = Any-elim (λ entry. is_named listed.pkg.name entry ≡ true) db
           (list_any (is_standing pkg) (changed (is_named listed.pkg.name) (unpacked_over listed) db) ≡ true)
-          (λ found within is. list_any-from_contains (is_standing pkg) (changed (is_named listed.pkg.name) (unpacked_over listed) db)
-          (unpacked_over listed found) (touched (is_named listed.pkg.name) (unpacked_over listed) db found within is)
-          (unpacked_stands pkg listed (kept_config_version found) named same))
+          (λ entry within is. list_any-from_contains (is_standing pkg) (changed (is_named listed.pkg.name) (unpacked_over listed) db)
+          (unpacked_over listed entry) (touched (is_named listed.pkg.name) (unpacked_over listed) db entry within is)
+          (unpacked_stands pkg listed (kept_config_version entry) named same))
           (Any-from_list_any (is_named listed.pkg.name) db some)
       at false none = list_any-from_contains (is_standing pkg) (db ++ unpacked_with listed None ∷ []) (unpacked_with listed None)
           (Contains-append_right db (unpacked_with listed None ∷ []) (unpacked_with listed None) (Contains-head (unpacked_with listed None) []))
@@ -87,7 +87,7 @@ module _ (selected : List Pkg) (db : List Record) (listed : IndexPackage) where
           (cond b (changed (is_named listed.pkg.name) (unpacked_over listed) db) (db ++ unpacked_with listed None ∷ [])) ≡ true
       at true = standing_elsewhere listed.pkg.name (unpacked_over listed) pkg db differs some
       at false = standing_kept pkg db (db ++ unpacked_with listed None ∷ [])
-          (λ found within is. (found, Contains-append_left db (unpacked_with listed None ∷ []) found within, is)) some
+          (λ entry within is. (entry, Contains-append_left db (unpacked_with listed None ∷ []) entry within, is)) some
 
   -- the records have no more than one package's work more
   unpacked_work : HasDistinctNames db → work_with (after_unpack listed db) ≤ work_with db + 3
@@ -127,8 +127,8 @@ module _ (selected : List Pkg) (db : List Record) (listed : IndexPackage) where
 -- Configuring
 
 -- the work of a record once it is configured
-configured_less : (found : Record) → IsPresent found → work_in (configured found).state ≤ work_in found.state
-configured_less found present = present_work found.state present
+configured_less : (entry : Record) → IsPresent entry → work_in (configured entry).state ≤ work_in entry.state
+configured_less entry present = present_work entry.state present
 
 -- a record of which a configuring may be asked is present
 configurable_present : (state : State) → is_unconfigured_state state ≡ true → is_present_state state ≡ true
@@ -142,9 +142,9 @@ configurable_present TriggersPending is = refl
 configurable_present Installed is = absurd (let e : false ≡ true = is in cc)
 
 -- what stood stands once it is configured
-configured_stands : (found : Record) → stands found ≡ true → stands (configured found) ≡ true
-configured_stands found is =
-    rw (both_true (is_unconfigured_state found.state || is_installed_state found.state) (is_sound_flag found.flag) is).1 refl
+configured_stands : (entry : Record) → stands entry ≡ true → stands (configured entry) ≡ true
+configured_stands entry is =
+    rw (both_true (is_unconfigured_state entry.state || is_installed_state entry.state) (is_sound_flag entry.flag) is).1 refl
 
 configure_falls : (selected : List Pkg) (db : List Record) (names : List (List ℕ)) → HasDistinctNames db → AreConfigurable db names
     → 0 < length names → work_left selected (changed (is_among names) configured db) < work_left selected db
@@ -154,64 +154,64 @@ configure_falls selected db names distinct may some =
     let fewer = falls names refl some in
     omega arith
   where
-    may_be : (found : Record) → Contains db found → is_among names found ≡ true → IsConfigurable found
-    may_be found within is = the_record IsConfigurable db distinct found within
-        (All-contains (λ name. HasRecord IsConfigurable name db) names found.name may (contains-is_among names found is))
+    may_be : (entry : Record) → Contains db entry → is_among names entry ≡ true → IsConfigurable entry
+    may_be entry within is = the_record IsConfigurable db distinct entry within
+        (All-contains (λ name. HasRecord IsConfigurable name db) names entry.name may (contains-is_among names entry is))
 
     kept : (pkg : Pkg) → Contains selected pkg → list_any (is_standing pkg) db ≡ true
         → list_any (is_standing pkg) (changed (is_among names) configured db) ≡ true
-    kept pkg there = standing_kept pkg db (changed (is_among names) configured db) (λ found within is.
-        by found within is (is_among names found) refl)
+    kept pkg there = standing_kept pkg db (changed (is_among names) configured db) (λ entry within is.
+        by entry within is (is_among names entry) refl)
       where
-        by : (found : Record) → Contains db found → is_standing pkg found ≡ true → (b : Bool) → is_among names found ≡ b
+        by : (entry : Record) → Contains db entry → is_standing pkg entry ≡ true → (b : Bool) → is_among names entry ≡ b
             → (after : Record) × Contains (changed (is_among names) configured db) after × (is_standing pkg after ≡ true)
-        by found within is true among = let parts = standing_parts pkg found is in (
-          configured found,
-          touched (is_among names) configured db found within among,
-          standing_from pkg (configured found) parts.0 (configured_stands found parts.1) parts.2,
+        by entry within is true among = let parts = standing_parts pkg entry is in (
+          configured entry,
+          touched (is_among names) configured db entry within among,
+          standing_from pkg (configured entry) parts.0 (configured_stands entry parts.1) parts.2,
         )
-        by found within is false among = (found, untouched (is_among names) configured db found within among, is)
+        by entry within is false among = (entry, untouched (is_among names) configured db entry within among, is)
 
     falls : (group : List (List ℕ)) → names ≡ group → 0 < length names → work_with (changed (is_among names) configured db) < work_with db
     falls [] is some = absurd (let e : length names ≡ 0 = ap (λ (ns : List (List ℕ)). length ns) is in omega arith)
     falls (name ∷ rest) is some =
         let inside : Contains names name = subst (λ (ns : List (List ℕ)). Contains ns name) (sym is) (Contains-head name rest) in
-        Any-elim (λ found. (found.name ≡ name) × IsConfigurable found) db (work_with (changed (is_among names) configured db) < work_with db)
-        (λ found within both. work_falls (is_among names) configured db
+        Any-elim (λ entry. (entry.name ≡ name) × IsConfigurable entry) db (work_with (changed (is_among names) configured db) < work_with db)
+        (λ entry within both. work_falls (is_among names) configured db
         (λ other there among. configured_less other (configurable_present other.state (may_be other there among).0))
-        found within (is_among-contains names found (subst (Contains names) (sym both.0) inside))
-        (unconfigured_work found.state both.1.0))
+        entry within (is_among-contains names entry (subst (Contains names) (sym both.0) inside))
+        (unconfigured_work entry.state both.1.0))
         (All-contains (λ n. HasRecord IsConfigurable n db) names name may inside)
 
 -- Removing
 
 remove_falls : (selected : List Pkg) (db : List Record) (name : List ℕ) → ¬ HasMember name selected
-    → HasRecord (λ found. IsPresent found × HasSoundFlag found) name db
+    → HasRecord (λ entry. IsPresent entry × HasSoundFlag entry) name db
     → work_left selected (changed (is_named name) removed db) < work_left selected db
 unfolding work_left HasMember
 remove_falls selected db name apart there =
     let less = unpacking_kept selected db (changed (is_named name) removed db) (λ pkg within.
     standing_elsewhere name removed pkg db (λ same. apart (Any-intro (λ (member : Pkg). member.name ≡ name) selected pkg within same))) in
     let fewer : work_with (changed (is_named name) removed db) < work_with db =
-    Any-elim (λ found. (found.name ≡ name) × (IsPresent found × HasSoundFlag found)) db
+    Any-elim (λ entry. (entry.name ≡ name) × (IsPresent entry × HasSoundFlag entry)) db
     (work_with (changed (is_named name) removed db) < work_with db)
-    (λ found within both. work_falls (is_named name) removed db (λ other inside named. some_work other.state)
-    found within (bytes_eq-same found.name name both.0) (present_work found.state both.1.0)) there in
+    (λ entry within both. work_falls (is_named name) removed db (λ other inside named. some_work other.state)
+    entry within (bytes_eq-same entry.name name both.0) (present_work entry.state both.1.0)) there in
     omega arith
 
 -- Purging
 
 purge_falls : (selected : List Pkg) (db : List Record) (name : List ℕ) → HasDistinctNames db → HasRecord IsRemoved name db
-    → work_left selected (filter (λ found. not (is_named name found)) db) < work_left selected db
+    → work_left selected (filter (λ entry. not (is_named name entry)) db) < work_left selected db
 unfolding work_left
 purge_falls selected db name distinct there =
-    let less = unpacking_kept selected db (filter (λ found. not (is_named name found)) db) (λ pkg within.
-    standing_kept pkg db (filter (λ found. not (is_named name found)) db) (λ found inside is.
-    (found, Contains-filter_intro (λ r. not (is_named name r)) db found inside (stays pkg found inside is (is_named name found) refl), is))) in
-    let fewer : work_with (filter (λ found. not (is_named name found)) db) < work_with db =
-    Any-elim (λ found. (found.name ≡ name) × IsRemoved found) db (work_with (filter (λ found. not (is_named name found)) db) < work_with db)
-    (λ found within both. work_dropped (λ r. not (is_named name r)) db found within
-    (ap not (bytes_eq-same found.name name both.0))) there in
+    let less = unpacking_kept selected db (filter (λ entry. not (is_named name entry)) db) (λ pkg within.
+    standing_kept pkg db (filter (λ entry. not (is_named name entry)) db) (λ entry inside is.
+    (entry, Contains-filter_intro (λ r. not (is_named name r)) db entry inside (stays pkg entry inside is (is_named name entry) refl), is))) in
+    let fewer : work_with (filter (λ entry. not (is_named name entry)) db) < work_with db =
+    Any-elim (λ entry. (entry.name ≡ name) × IsRemoved entry) db (work_with (filter (λ entry. not (is_named name entry)) db) < work_with db)
+    (λ entry within both. work_dropped (λ r. not (is_named name r)) db entry within
+    (ap not (bytes_eq-same entry.name name both.0))) there in
     omega arith
   where
     removed_falls : (state : State) (sound : Bool) → is_config_files_state state ≡ true
@@ -225,10 +225,10 @@ purge_falls selected db name distinct there =
     removed_falls TriggersPending sound is stands = let e : false ≡ true = is in absurd cc
     removed_falls Installed sound is stands = let e : false ≡ true = is in absurd cc
 
-    stays : (pkg : Pkg) (found : Record) → Contains db found → is_standing pkg found ≡ true → (b : Bool) → is_named name found ≡ b → not b ≡ true
-    stays pkg found within is false named = refl
-    stays pkg found within is true named = absurd (removed_falls found.state (is_sound_flag found.flag)
-        (the_named IsRemoved db distinct name there found within named) (standing_parts pkg found is).1)
+    stays : (pkg : Pkg) (entry : Record) → Contains db entry → is_standing pkg entry ≡ true → (b : Bool) → is_named name entry ≡ b → not b ≡ true
+    stays pkg entry within is false named = refl
+    stays pkg entry within is true named = absurd (removed_falls entry.state (is_sound_flag entry.flag)
+        (the_named IsRemoved db distinct name there entry within named) (standing_parts pkg entry is).1)
 
 -- All of them
 

@@ -16,7 +16,7 @@ use Rattle.rules.specs.Name.{name_cmp}
 use Rattle.rules.specs.NamedLaws.{bytes_eq-true}
 use Rattle.rules.proofs.GroupLemmas.{GroupPasses-each, GroupPasses-from_each, MemberPasses-more}
 use Rattle.rules.proofs.Rising.{AllPairs-rising}
-use Rattle.forward_steps.specs.Door.{NoPartPasses}
+use Rattle.forward_steps.specs.PartialPlan.{NoPartPasses}
 use Rattle.forward_steps.specs.Group.{AreOthersOf, IsGroupOf, IsInOrder, IsNarrowed, IsNarrowedBy, NonePassesWithout}
 
 -- a list with an element isn't empty

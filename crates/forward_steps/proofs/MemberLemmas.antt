@@ -40,9 +40,9 @@ pub chosen_members : (u : Universe) (numbers : List ℕ) → packages_of (filter
 chosen_members u [] = refl
 chosen_members u (number ∷ numbers) = at number (chosen_members u numbers)
   where
-    by : (found : Option Pair) → packages_of (filter_map (member_at u) numbers) ≡ map bare (chosen u numbers)
-        → packages_of (cons_option (option_map (with_stanza u) found) (filter_map (member_at u) numbers))
-        ≡ map bare (cons_option (option_map (λ (pair : Pair). pair.pkg) found) (chosen u numbers))
+    by : (maybe_pair : Option Pair) → packages_of (filter_map (member_at u) numbers) ≡ map bare (chosen u numbers)
+        → packages_of (cons_option (option_map (with_stanza u) maybe_pair) (filter_map (member_at u) numbers))
+        ≡ map bare (cons_option (option_map (λ (pair : Pair). pair.pkg) maybe_pair) (chosen u numbers))
     by None rest = rest
     by (Some pair) rest = ap (λ (pkgs : List Pkg). bare pair.pkg ∷ pkgs) rest
 

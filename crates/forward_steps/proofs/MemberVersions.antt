@@ -26,7 +26,7 @@ pub version_from_test : (members : List Pair) (name version : List ℕ) → is_m
 unfolding HasVersion
 version_from_test members name version is = at (member_of members name) refl is
   where
-    at : (found : Option Pair) → member_of members name ≡ found → option_map_or (λ (pair : Pair). is_of name version pair.pkg) found false ≡ true
+    at : (maybe_pair : Option Pair) → member_of members name ≡ maybe_pair → option_map_or (λ (pair : Pair). is_of name version pair.pkg) maybe_pair false ≡ true
         → Any (IsOf name version) (packages_of members)
     at None none is = absurd (let e : false ≡ true = is in cc)
     at (Some pair) some is = let there = find-some (is_named_pair name) members pair some in
@@ -47,8 +47,8 @@ version_test_from members each name version has = Any-elim (IsOf name version) (
     (is_member_version members name version ≡ true)
     (λ pkg within is. at pkg within is (member_of members name) refl) has
   where
-    at : (pkg : Pkg) → Contains (packages_of members) pkg → IsOf name version pkg → (found : Option Pair) → member_of members name ≡ found
-        → option_map_or (λ (pair : Pair). is_of name version pair.pkg) found false ≡ true
+    at : (pkg : Pkg) → Contains (packages_of members) pkg → IsOf name version pkg → (maybe_pair : Option Pair) → member_of members name ≡ maybe_pair
+        → option_map_or (λ (pair : Pair). is_of name version pair.pkg) maybe_pair false ≡ true
     at pkg within is None none = absurd (let member = found_member members name pkg within is.0 in
         let e : true ≡ false = sym member.3 ∙ find-none (is_named_pair name) members none member.0 member.1 in cc)
     at pkg within is (Some pair) some =
@@ -64,8 +64,8 @@ unfolding HasMember
 none_from_test members name is has = Any-elim (λ (member : Pkg). member.name ≡ name) (packages_of members) ⊥
     (λ pkg within named. at pkg within named (member_of members name) refl is) has
   where
-    at : (pkg : Pkg) → Contains (packages_of members) pkg → pkg.name ≡ name → (found : Option Pair) → member_of members name ≡ found
-        → not (is_some found) ≡ true → ⊥
+    at : (pkg : Pkg) → Contains (packages_of members) pkg → pkg.name ≡ name → (maybe_pair : Option Pair) → member_of members name ≡ maybe_pair
+        → not (is_some maybe_pair) ≡ true → ⊥
     at pkg within named None none is = let member = found_member members name pkg within named in
         absurd (let e : true ≡ false = sym member.3 ∙ find-none (is_named_pair name) members none member.0 member.1 in cc)
     at pkg within named (Some pair) some is = absurd (let e : false ≡ true = is in cc)
@@ -75,7 +75,7 @@ pub none_test_from : (members : List Pair) (name : List ℕ) → ¬ HasMember na
 unfolding HasMember
 none_test_from members name none = at (member_of members name) refl
   where
-    at : (found : Option Pair) → member_of members name ≡ found → not (is_some found) ≡ true
+    at : (maybe_pair : Option Pair) → member_of members name ≡ maybe_pair → not (is_some maybe_pair) ≡ true
     at None is = refl
     at (Some pair) some = let there = find-some (is_named_pair name) members pair some in
         absurd (none (Any-intro (λ (member : Pkg). member.name ≡ name) (packages_of members) pair.pkg
@@ -83,16 +83,16 @@ none_test_from members name none = at (member_of members name) refl
 
 -- The parts of the tests of records
 
-pub waiting_parts : (members : List Pair) (found : Record) → is_waiting members found ≡ true
-    → (is_unconfigured_state found.state ≡ true) × (is_name found.name ≡ true) × (is_member_version members found.name found.version ≡ true)
-waiting_parts members found is =
-    let outer = both_true (is_unconfigured_state found.state && is_name found.name) (is_member_version members found.name found.version) is in
-    let inner = both_true (is_unconfigured_state found.state) (is_name found.name) outer.0 in
+pub waiting_parts : (members : List Pair) (entry : Record) → is_waiting members entry ≡ true
+    → (is_unconfigured_state entry.state ≡ true) × (is_name entry.name ≡ true) × (is_member_version members entry.name entry.version ≡ true)
+waiting_parts members entry is =
+    let outer = both_true (is_unconfigured_state entry.state && is_name entry.name) (is_member_version members entry.name entry.version) is in
+    let inner = both_true (is_unconfigured_state entry.state) (is_name entry.name) outer.0 in
     (inner.0, inner.1, outer.1)
 
-pub leaving_parts : (members : List Pair) (found : Record) → is_leaving members found ≡ true
-    → (is_present_state found.state ≡ true) × (is_name found.name ≡ true) × (not (is_some (member_of members found.name)) ≡ true)
-leaving_parts members found is =
-    let outer = both_true (is_present_state found.state && is_name found.name) (not (is_some (member_of members found.name))) is in
-    let inner = both_true (is_present_state found.state) (is_name found.name) outer.0 in
+pub leaving_parts : (members : List Pair) (entry : Record) → is_leaving members entry ≡ true
+    → (is_present_state entry.state ≡ true) × (is_name entry.name ≡ true) × (not (is_some (member_of members entry.name)) ≡ true)
+leaving_parts members entry is =
+    let outer = both_true (is_present_state entry.state && is_name entry.name) (not (is_some (member_of members entry.name))) is in
+    let inner = both_true (is_present_state entry.state) (is_name entry.name) outer.0 in
     (inner.0, inner.1, outer.1)

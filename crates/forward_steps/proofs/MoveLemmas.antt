@@ -17,7 +17,7 @@ use Rattle.rules.specs.declared.step.Step.{Step}
 use Rattle.rules.specs.declared.step.Step.TheVariants as step
 use Rattle.rules.proofs.QuietLemmas.{the_record}
 use Rattle.universe_parts.specs.Parts.{packages_of}
-use Rattle.forward_steps.specs.Door.{CannotPurge, CannotRemove, CannotUnpack, Moves, NoPartPasses, NoneConfigured, NoneRemoved}
+use Rattle.forward_steps.specs.PartialPlan.{CannotPurge, CannotRemove, CannotUnpack, Moves, NoPartPasses, NoneConfigured, NoneRemoved}
 use Rattle.forward_steps.specs.Group.{IsGroupOf}
 use Rattle.forward_steps.specs.Forward.{IsAtRest, IsForward, IsOfSelected}
 use Rattle.forward_steps.specs.Selection.{IsOneEach, is_leaving, is_waiting}
@@ -61,7 +61,7 @@ no_name u db member isnt is = absurd (let e : false ≡ true = sym isnt ∙ is i
 
 -- the names of the records that wait
 abbrev waiting_names : List Pair → List Record → List (List ℕ)
-waiting_names members db = map (λ (found : Record). found.name) (filter (is_waiting members) db)
+waiting_names members db = map (λ (entry : Record). entry.name) (filter (is_waiting members) db)
 
 pub group_allowed : (u : Universe) (db : List Record) (names group : List (List ℕ)) → IsGroupOf db names group → Allowed u db (step.Configure group)
 unfolding Allowed
@@ -74,12 +74,12 @@ unfolding IsOfSelected
 group_forward u members db group is = (
   is.some,
   All-intro (IsOfSelected (packages_of members) db) group (λ name within.
-      let waits = Contains-map (λ (found : Record). found.name) (filter (is_waiting members) db) name
+      let waits = Contains-map (λ (entry : Record). entry.name) (filter (is_waiting members) db) name
       (All-contains (Contains (waiting_names members db)) group name is.within within) in
       let kept = Contains-filter (is_waiting members) db waits.0 waits.1 in
       let parts = waiting_parts members waits.0 kept.1 in (
         subst (λ n. is_name n ≡ true) waits.2 parts.1,
-        Any-intro (λ found. (found.name ≡ name) × HasVersion name found.version (packages_of members)) db waits.0 kept.0
+        Any-intro (λ entry. (entry.name ≡ name) × HasVersion name entry.version (packages_of members)) db waits.0 kept.0
             (waits.2, subst (λ n. HasVersion n waits.0.version (packages_of members)) waits.2 (version_from_test members waits.0.name waits.0.version parts.2)),
       )),
 )
@@ -102,25 +102,25 @@ none_configured u members db each distinct none group forward allowed =
   where
     waits : GroupPasses db group → (name : List ℕ) → Contains group name → IsOfSelected (packages_of members) db name
         → Contains (waiting_names members db) name
-    waits passes name within of = Any-elim (λ found. (found.name ≡ name) × HasVersion name found.version (packages_of members)) db
+    waits passes name within of = Any-elim (λ entry. (entry.name ≡ name) × HasVersion name entry.version (packages_of members)) db
         (Contains (waiting_names members db) name)
-        (λ found there both.
-        let may : IsConfigurable found = the_record IsConfigurable db distinct found there
+        (λ entry there both.
+        let may : IsConfigurable entry = the_record IsConfigurable db distinct entry there
         (subst (λ n. HasRecord IsConfigurable n db) (sym both.0) (All-contains (λ n. HasRecord IsConfigurable n db) group name passes.configurable within)) in
-        let named : is_name found.name ≡ true = subst (λ n. is_name n ≡ true) (sym both.0) of.0 in
-        let version = version_test_from members each found.name found.version
-        (subst (λ n. HasVersion n found.version (packages_of members)) (sym both.0) both.1) in
-        subst (Contains (waiting_names members db)) both.0 (Contains-map_intro (λ (r : Record). r.name) (filter (is_waiting members) db) found
-        (Contains-filter_intro (is_waiting members) db found there (rw (may.0, named, version) refl)))) of.1
+        let named : is_name entry.name ≡ true = subst (λ n. is_name n ≡ true) (sym both.0) of.0 in
+        let version = version_test_from members each entry.name entry.version
+        (subst (λ n. HasVersion n entry.version (packages_of members)) (sym both.0) both.1) in
+        subst (Contains (waiting_names members db)) both.0 (Contains-map_intro (λ (r : Record). r.name) (filter (is_waiting members) db) entry
+        (Contains-filter_intro (is_waiting members) db entry there (rw (may.0, named, version) refl)))) of.1
 
 -- Removing
 
 abbrev leaving_names : List Pair → List Record → List (List ℕ)
-leaving_names members db = map (λ (found : Record). found.name) (filter (is_leaving members) db)
+leaving_names members db = map (λ (entry : Record). entry.name) (filter (is_leaving members) db)
 
 pub leaving_away : (members : List Pair) (db : List Record) → All (λ name. ¬ HasMember name (packages_of members)) (leaving_names members db)
 leaving_away members db = All-intro (λ name. ¬ HasMember name (packages_of members)) (leaving_names members db) (λ name within.
-    let goes = Contains-map (λ (found : Record). found.name) (filter (is_leaving members) db) name within in
+    let goes = Contains-map (λ (entry : Record). entry.name) (filter (is_leaving members) db) name within in
     let kept = Contains-filter (is_leaving members) db goes.0 goes.1 in
     subst (λ n. ¬ HasMember n (packages_of members)) goes.2
     (none_from_test members goes.0.name (leaving_parts members goes.0 kept.1).2))
@@ -129,13 +129,13 @@ pub none_removed : (u : Universe) (members : List Pair) (db : List Record) → A
     → NoneRemoved u (packages_of members) db
 unfolding NoneRemoved CannotRemove Allowed
 none_removed u members db cannot name forward allowed =
-    Any-elim (λ found. (found.name ≡ name) × (IsPresent found × HasSoundFlag found)) db ⊥
-    (λ found there both.
-    let named : is_name found.name ≡ true = subst (λ n. is_name n ≡ true) (sym both.0) forward.0 in
-    let away = none_test_from members found.name (subst (λ n. ¬ HasMember n (packages_of members)) (sym both.0) forward.1) in
+    Any-elim (λ entry. (entry.name ≡ name) × (IsPresent entry × HasSoundFlag entry)) db ⊥
+    (λ entry there both.
+    let named : is_name entry.name ≡ true = subst (λ n. is_name n ≡ true) (sym both.0) forward.0 in
+    let away = none_test_from members entry.name (subst (λ n. ¬ HasMember n (packages_of members)) (sym both.0) forward.1) in
     All-contains (λ n. ¬ Allowed u db (step.Remove n)) (leaving_names members db) name cannot
-    (subst (Contains (leaving_names members db)) both.0 (Contains-map_intro (λ (r : Record). r.name) (filter (is_leaving members) db) found
-    (Contains-filter_intro (is_leaving members) db found there (rw (both.1.0, named, away) refl)))) allowed)
+    (subst (Contains (leaving_names members db)) both.0 (Contains-map_intro (λ (r : Record). r.name) (filter (is_leaving members) db) entry
+    (Contains-filter_intro (is_leaving members) db entry there (rw (both.1.0, named, away) refl)))) allowed)
     (allowed 0 rule.WrongState (lit< tt))
 
 -- All of them

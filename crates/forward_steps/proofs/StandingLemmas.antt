@@ -54,34 +54,34 @@ the_only name_of xs distinct x y (i, i_in, i_is) (j, j_in, j_is) same = elim (ca
 
 -- What stands
 
-pub standing_parts : (pkg : Pkg) (found : Record) → is_standing pkg found ≡ true
-    → (found.name ≡ pkg.name) × (stands found ≡ true) × SameVersion found.version pkg.version
-standing_parts pkg found is =
-    let outer = both_true (is_named pkg.name found) (stands found && is_eq (version_cmp found.version pkg.version)) is in
-    let inner = both_true (stands found) (is_eq (version_cmp found.version pkg.version)) outer.1 in
-    (bytes_eq-true found.name pkg.name outer.0, inner.0, equal_from_test (version_cmp found.version pkg.version) inner.1)
+pub standing_parts : (pkg : Pkg) (entry : Record) → is_standing pkg entry ≡ true
+    → (entry.name ≡ pkg.name) × (stands entry ≡ true) × SameVersion entry.version pkg.version
+standing_parts pkg entry is =
+    let outer = both_true (is_named pkg.name entry) (stands entry && is_eq (version_cmp entry.version pkg.version)) is in
+    let inner = both_true (stands entry) (is_eq (version_cmp entry.version pkg.version)) outer.1 in
+    (bytes_eq-true entry.name pkg.name outer.0, inner.0, equal_from_test (version_cmp entry.version pkg.version) inner.1)
 
-pub standing_from : (pkg : Pkg) (found : Record) → found.name ≡ pkg.name → stands found ≡ true
-    → SameVersion found.version pkg.version → is_standing pkg found ≡ true
-standing_from pkg found named is same = rw (bytes_eq-same found.name pkg.name named, is, same) refl
+pub standing_from : (pkg : Pkg) (entry : Record) → entry.name ≡ pkg.name → stands entry ≡ true
+    → SameVersion entry.version pkg.version → is_standing pkg entry ≡ true
+standing_from pkg entry named is same = rw (bytes_eq-same entry.name pkg.name named, is, same) refl
 
 -- a package stands as a version exactly where a record passes the test
 pub stands-as : (pkg : Pkg) (db : List Record) → list_any (is_standing pkg) db ≡ true → StandsAs db pkg.name pkg.version
 unfolding StandsAs
-stands-as pkg db some = Any-elim (λ found. is_standing pkg found ≡ true) db
-    (Any (λ found. (found.name ≡ pkg.name) × (Stands found × SameVersion found.version pkg.version)) db)
-    (λ found within is. let parts = standing_parts pkg found is in
-    Any-intro (λ found. (found.name ≡ pkg.name) × (Stands found × SameVersion found.version pkg.version)) db found within
+stands-as pkg db some = Any-elim (λ entry. is_standing pkg entry ≡ true) db
+    (Any (λ entry. (entry.name ≡ pkg.name) × (Stands entry × SameVersion entry.version pkg.version)) db)
+    (λ entry within is. let parts = standing_parts pkg entry is in
+    Any-intro (λ entry. (entry.name ≡ pkg.name) × (Stands entry × SameVersion entry.version pkg.version)) db entry within
     (parts.0, (parts.1, parts.2)))
     (Any-from_list_any (is_standing pkg) db some)
 
 -- it stands after where each record in which it stands has one after in which it does
 pub standing_kept : (pkg : Pkg) (old new : List Record)
-    → ((found : Record) → Contains old found → is_standing pkg found ≡ true
+    → ((entry : Record) → Contains old entry → is_standing pkg entry ≡ true
     → (after : Record) × Contains new after × (is_standing pkg after ≡ true))
     → list_any (is_standing pkg) old ≡ true → list_any (is_standing pkg) new ≡ true
-standing_kept pkg old new kept some = Any-elim (λ found. is_standing pkg found ≡ true) old (list_any (is_standing pkg) new ≡ true)
-    (λ found within is. let after = kept found within is in list_any-from_contains (is_standing pkg) new after.0 after.1 after.2)
+standing_kept pkg old new kept some = Any-elim (λ entry. is_standing pkg entry ≡ true) old (list_any (is_standing pkg) new ≡ true)
+    (λ entry within is. let after = kept entry within is in list_any-from_contains (is_standing pkg) new after.0 after.1 after.2)
     (Any-from_list_any (is_standing pkg) old some)
 
 -- what is unpacked stands
@@ -94,8 +94,8 @@ pub stanza_is : (start : List Record) (u : Universe) → IsBuiltOn start u → (
     → listed_of u name version ≡ Some listed → (listed.pkg.name ≡ name) × SameVersion listed.pkg.version version
 stanza_is start u built name version listed is = at (find (λ (pair : Pair). is_of name version pair.pkg) u.pairs) refl is
   where
-    at : (found : Option Pair) → find (λ (pair : Pair). is_of name version pair.pkg) u.pairs ≡ found
-        → option_and_then (λ (pair : Pair). pair.listed) found ≡ Some listed
+    at : (maybe_pair : Option Pair) → find (λ (pair : Pair). is_of name version pair.pkg) u.pairs ≡ maybe_pair
+        → option_and_then (λ (pair : Pair). pair.listed) maybe_pair ≡ Some listed
         → (listed.pkg.name ≡ name) × SameVersion listed.pkg.version version
     at None none is = absurd (let e : None ≡ Some listed = is in cc)
     at (Some pair) some is =

@@ -106,58 +106,58 @@ unpacking_falls (pkg ∷ selected) old new kept one within before after = elim (
 
 -- a change that gives no record more work
 pub work_kept : (test : Record → Bool) (change : Record → Record) (db : List Record)
-    → ((found : Record) → Contains db found → test found ≡ true → work_in (change found).state ≤ work_in found.state)
+    → ((entry : Record) → Contains db entry → test entry ≡ true → work_in (change entry).state ≤ work_in entry.state)
     → work_with (changed test change db) ≤ work_with db
 work_kept test change [] less = lit≤ tt
-work_kept test change (found ∷ db) less = at (test found) (less found (Contains-head found db))
-    (work_kept test change db (λ other within. less other (Contains-rest found db other within)))
+work_kept test change (entry ∷ db) less = at (test entry) (less entry (Contains-head entry db))
+    (work_kept test change db (λ other within. less other (Contains-rest entry db other within)))
   where
-    at : (b : Bool) → (b ≡ true → work_in (change found).state ≤ work_in found.state) → work_with (changed test change db) ≤ work_with db
-        → work_in (cond b (change found) found).state + work_with (changed test change db) ≤ work_in found.state + work_with db
+    at : (b : Bool) → (b ≡ true → work_in (change entry).state ≤ work_in entry.state) → work_with (changed test change db) ≤ work_with db
+        → work_in (cond b (change entry) entry).state + work_with (changed test change db) ≤ work_in entry.state + work_with db
     at true here rest = let h = here refl in omega arith
     at false here rest = omega arith
 
 -- and one of them less
 pub work_falls : (test : Record → Bool) (change : Record → Record) (db : List Record)
-    → ((found : Record) → Contains db found → test found ≡ true → work_in (change found).state ≤ work_in found.state)
+    → ((entry : Record) → Contains db entry → test entry ≡ true → work_in (change entry).state ≤ work_in entry.state)
     → (one : Record) → Contains db one → test one ≡ true → work_in (change one).state < work_in one.state
     → work_with (changed test change db) < work_with db
 work_falls test change [] less one within passes falls = absurd (Contains-nil one within)
-work_falls test change (found ∷ db) less one within passes falls = elim (Contains-cons found db one within) [
-  | inl same ↦ here (test found) (ap test same ∙ passes)
+work_falls test change (entry ∷ db) less one within passes falls = elim (Contains-cons entry db one within) [
+  | inl same ↦ here (test entry) (ap test same ∙ passes)
       (subst (λ (r : Record). work_in (change r).state < work_in r.state) (sym same) falls)
-      (work_kept test change db (λ other there. less other (Contains-rest found db other there)))
-  | inr later ↦ past (test found) (less found (Contains-head found db))
-      (work_falls test change db (λ other there. less other (Contains-rest found db other there)) one later passes falls)
+      (work_kept test change db (λ other there. less other (Contains-rest entry db other there)))
+  | inr later ↦ past (test entry) (less entry (Contains-head entry db))
+      (work_falls test change db (λ other there. less other (Contains-rest entry db other there)) one later passes falls)
 ]
   where
-    here : (b : Bool) → b ≡ true → work_in (change found).state < work_in found.state → work_with (changed test change db) ≤ work_with db
-        → work_in (cond b (change found) found).state + work_with (changed test change db) < work_in found.state + work_with db
+    here : (b : Bool) → b ≡ true → work_in (change entry).state < work_in entry.state → work_with (changed test change db) ≤ work_with db
+        → work_in (cond b (change entry) entry).state + work_with (changed test change db) < work_in entry.state + work_with db
     here true is falls rest = omega arith
     here false is falls rest = absurd (let e : false ≡ true = is in cc)
 
-    past : (b : Bool) → (b ≡ true → work_in (change found).state ≤ work_in found.state) → work_with (changed test change db) < work_with db
-        → work_in (cond b (change found) found).state + work_with (changed test change db) < work_in found.state + work_with db
+    past : (b : Bool) → (b ≡ true → work_in (change entry).state ≤ work_in entry.state) → work_with (changed test change db) < work_with db
+        → work_in (cond b (change entry) entry).state + work_with (changed test change db) < work_in entry.state + work_with db
     past true more rest = let h = more refl in omega arith
     past false more rest = omega arith
 
 -- one record more
 pub work_appended : (db : List Record) (last : Record) → work_with (db ++ last ∷ []) ≡ work_with db + work_in last.state
 work_appended [] last = omega arith
-work_appended (found ∷ db) last = let rest = work_appended db last in omega arith
+work_appended (entry ∷ db) last = let rest = work_appended db last in omega arith
 
 -- none of the later records is of the first one's name
-none_later : (name : List ℕ) (found : Record) (db : List Record) → HasDistinctNames (found ∷ db) → is_named name found ≡ true
+none_later : (name : List ℕ) (entry : Record) (db : List Record) → HasDistinctNames (entry ∷ db) → is_named name entry ≡ true
     → list_any (is_named name) db ≡ false
 unfolding HasDistinctNames
-none_later name found db distinct named = at (list_any (is_named name) db) refl
+none_later name entry db distinct named = at (list_any (is_named name) db) refl
   where
     at : (b : Bool) → list_any (is_named name) db ≡ b → b ≡ false
     at false is = refl
     at true is = absurd (Any-elim (λ (other : Record). is_named name other ≡ true) db ⊥ (λ other within same.
-        All-contains (λ (later : Record). found.name ≢ later.name) db other
-        (pairs_head (λ (earlier later : Record). earlier.name ≢ later.name) found db distinct) within
-        (bytes_eq-true found.name name named ∙ sym (bytes_eq-true other.name name same)))
+        All-contains (λ (later : Record). entry.name ≢ later.name) db other
+        (pairs_head (λ (earlier later : Record). earlier.name ≢ later.name) entry db distinct) within
+        (bytes_eq-true entry.name name named ∙ sym (bytes_eq-true other.name name same)))
         (Any-from_list_any (is_named name) db is))
 
 -- the record of a name is the only one that a change by name gives more work
@@ -165,41 +165,41 @@ pub work_of_one : (name : List ℕ) (change : Record → Record) (db : List Reco
     → work_with (changed (is_named name) change db) ≤ work_with db + 3
 unfolding HasDistinctNames
 work_of_one name change [] distinct = lit≤ tt
-work_of_one name change (found ∷ db) distinct = at (is_named name found) refl
-    (work_of_one name change db (pairs_tail (λ (earlier later : Record). earlier.name ≢ later.name) found db distinct))
+work_of_one name change (entry ∷ db) distinct = at (is_named name entry) refl
+    (work_of_one name change db (pairs_tail (λ (earlier later : Record). earlier.name ≢ later.name) entry db distinct))
   where
-    at : (b : Bool) → is_named name found ≡ b → work_with (changed (is_named name) change db) ≤ work_with db + 3
-        → work_in (cond b (change found) found).state + work_with (changed (is_named name) change db) ≤ work_in found.state + work_with db + 3
+    at : (b : Bool) → is_named name entry ≡ b → work_with (changed (is_named name) change db) ≤ work_with db + 3
+        → work_in (cond b (change entry) entry).state + work_with (changed (is_named name) change db) ≤ work_in entry.state + work_with db + 3
     at true is rest =
         let same : work_with db ≡ work_with (changed (is_named name) change db) =
-        ap work_with (changed-nowhere name change db (none_later name found db distinct is)) in
-        let most = no_more_work (change found).state in omega arith
+        ap work_with (changed-nowhere name change db (none_later name entry db distinct is)) in
+        let most = no_more_work (change entry).state in omega arith
     at false is rest = omega arith
 
 -- what is kept of the records
 work_filtered : (test : Record → Bool) (db : List Record) → work_with (filter test db) ≤ work_with db
 work_filtered test [] = lit≤ tt
-work_filtered test (found ∷ db) = at (test found) (work_filtered test db)
+work_filtered test (entry ∷ db) = at (test entry) (work_filtered test db)
   where
     at : (b : Bool) → work_with (filter test db) ≤ work_with db
-        → work_with (cond b (found ∷ filter test db) (filter test db)) ≤ work_in found.state + work_with db
+        → work_with (cond b (entry ∷ filter test db) (filter test db)) ≤ work_in entry.state + work_with db
     at true rest = omega arith
     at false rest = omega arith
 
 pub work_dropped : (test : Record → Bool) (db : List Record) (one : Record) → Contains db one → test one ≡ false
     → work_with (filter test db) < work_with db
 work_dropped test [] one within fails = absurd (Contains-nil one within)
-work_dropped test (found ∷ db) one within fails = elim (Contains-cons found db one within) [
-  | inl same ↦ here (test found) (ap test same ∙ fails) (some_work found.state) (work_filtered test db)
-  | inr later ↦ past (test found) (work_dropped test db one later fails)
+work_dropped test (entry ∷ db) one within fails = elim (Contains-cons entry db one within) [
+  | inl same ↦ here (test entry) (ap test same ∙ fails) (some_work entry.state) (work_filtered test db)
+  | inr later ↦ past (test entry) (work_dropped test db one later fails)
 ]
   where
-    here : (b : Bool) → b ≡ false → 1 ≤ work_in found.state → work_with (filter test db) ≤ work_with db
-        → work_with (cond b (found ∷ filter test db) (filter test db)) < work_in found.state + work_with db
+    here : (b : Bool) → b ≡ false → 1 ≤ work_in entry.state → work_with (filter test db) ≤ work_with db
+        → work_with (cond b (entry ∷ filter test db) (filter test db)) < work_in entry.state + work_with db
     here true is some rest = absurd (let e : true ≡ false = is in cc)
     here false is some rest = omega arith
 
     past : (b : Bool) → work_with (filter test db) < work_with db
-        → work_with (cond b (found ∷ filter test db) (filter test db)) < work_in found.state + work_with db
+        → work_with (cond b (entry ∷ filter test db) (filter test db)) < work_in entry.state + work_with db
     past true rest = omega arith
     past false rest = omega arith

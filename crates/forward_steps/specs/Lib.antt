@@ -2,4 +2,4 @@ pub mod Selection
 pub mod Forward
 pub mod Work
 pub mod Group
-pub mod Door
+pub mod PartialPlan

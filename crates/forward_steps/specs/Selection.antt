@@ -51,10 +51,10 @@ is_member_version members name version =
 
 -- the record waits to be configured in the member's version, as a test
 abbrev pub is_waiting : List Pair → Record → Bool
-is_waiting members found =
-    is_unconfigured_state found.state && is_name found.name && is_member_version members found.name found.version
+is_waiting members entry =
+    is_unconfigured_state entry.state && is_name entry.name && is_member_version members entry.name entry.version
 
 -- the record is present and of a name without a member, as a test
 abbrev pub is_leaving : List Pair → Record → Bool
-is_leaving members found =
-    is_present_state found.state && is_name found.name && not (is_some (member_of members found.name))
+is_leaving members entry =
+    is_present_state entry.state && is_name entry.name && not (is_some (member_of members entry.name))

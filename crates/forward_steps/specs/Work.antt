@@ -23,11 +23,11 @@ work_in Installed = 2
 -- the work with all records
 abbrev pub work_with : List Record → ℕ
 work_with [] = 0
-work_with (found ∷ db) = work_in found.state + work_with db
+work_with (entry ∷ db) = work_in entry.state + work_with db
 
 -- the record is one in which the package stands, as a test
 abbrev pub is_standing : Pkg → Record → Bool
-is_standing pkg found = is_named pkg.name found && (stands found && is_eq (version_cmp found.version pkg.version))
+is_standing pkg entry = is_named pkg.name entry && (stands entry && is_eq (version_cmp entry.version pkg.version))
 
 -- the work of unpacking the packages that don't stand: more than what an unpacked one asks for
 abbrev pub unpacking : List Record → List Pkg → ℕ

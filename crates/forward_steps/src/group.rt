@@ -3,7 +3,7 @@
 ghost use Rattle.std.specs.Prelude.{◌≡◌, ℕ, ◌<◌, IfOk, MatchOption, length};
 ghost use Rattle.std.specs.List.{All, Contains};
 ghost use Rattle.rules.specs.Configure.{GroupPasses};
-ghost use Rattle.forward_steps.specs.Door.{NoPartPasses};
+ghost use Rattle.forward_steps.specs.PartialPlan.{NoPartPasses};
 ghost use Rattle.forward_steps.specs.Group.{AreOthersOf, IsGroupOf, IsNarrowed, IsNarrowedBy};
 
 use crate::name_order::in_order;
@@ -26,7 +26,7 @@ fn others_of(alloc: Global, names: &[Name], name: &Name) -> Result<Vec<Name>, Al
 }
 
 // The greatest part that passes without this name, if it has any; else the group.
-fn narrowed(
+fn part_without(
     alloc: Global,
     db: &Records<'_, '_>,
     group: Vec<Name>,
@@ -55,7 +55,7 @@ fn narrowed_by(
 {
     let mut narrow = group;
     for name in names {
-        narrow = narrowed(alloc, db, narrow, name)?;
+        narrow = part_without(alloc, db, narrow, name)?;
     }
     Ok(narrow)
 }
@@ -68,7 +68,9 @@ pub fn group_of(
     db: &Records<'_, '_>,
     names: &[Name],
 ) -> Result<Option<Names>, AllocError>
-    ensures { IfOk result (λ group. MatchOption group (NoPartPasses db.now names.now) (λ found. IsGroupOf db.now names.now found)) }
+    ensures { IfOk result
+        (λ group. MatchOption group (NoPartPasses db.now names.now)
+        (λ members. IsGroupOf db.now names.now members)) }
 {
     let part = greatest_part(alloc, db, names)?;
     if part.is_empty() {

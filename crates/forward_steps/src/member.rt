@@ -71,7 +71,7 @@ impl<'a> Member<'a> {
     }
 
     /// The stanza in the indices, if there is one.
-    pub fn listed(&self) -> Option<&IndexPackage<'a>>
+    pub fn stanza(&self) -> Option<&IndexPackage<'a>>
         ensures { option_copied result ≡ self.now.listed }
     {
         self.listed.as_ref()
@@ -81,13 +81,13 @@ impl<'a> Member<'a> {
 /// The members of a selection, no two of which are of one name, with a table of the names, and the order in which they are
 /// tried.
 #[derive(Drop)]
-pub struct Members<'a> {
+pub struct MemberTable<'a> {
     members: Vec<Member<'a>>,
     names: IndexSet<&'a [u8]>,
     ranks: Vec<usize>,
 }
 
-impl<'a> Model for Members<'a> {
+impl<'a> Model for MemberTable<'a> {
     ghost use Rattle.std.specs.Prelude.{◌≡◌, List, map};
     ghost use Rattle.rules.specs.Universe.{Pair as PairValue};
 
@@ -104,7 +104,8 @@ fn members_at<'a>(
     universe: &Universe<'_, 'a>,
     selection: &[u32],
 ) -> Result<Vec<Member<'a>>, AllocError>
-    ensures { IfOk result (λ members. members.items ≡ filter_map (member_at universe.now) selection.now) }
+    ensures { IfOk result
+        (λ members. members.items ≡ filter_map (member_at universe.now) selection.now) }
 {
     let mut members = Vec::new(alloc);
     for number in selection {
@@ -118,7 +119,8 @@ fn members_at<'a>(
 // The names of the members, in their order.
 fn names_of<'a>(alloc: Global, members: &[Member<'a>]) -> Result<IndexSet<&'a [u8]>, AllocError>
     requires { IsOneEach (packages_of members.now) }
-    ensures { IfOk result (λ names. map (λ name. name.now) names.keys ≡ map (λ pair. pair.pkg.name) members.now) }
+    ensures { IfOk result
+        (λ names. map (λ name. name.now) names.keys ≡ map (λ pair. pair.pkg.name) members.now) }
 {
     let mut names = IndexSet::new(alloc);
     for member in members {
@@ -127,20 +129,21 @@ fn names_of<'a>(alloc: Global, members: &[Member<'a>]) -> Result<IndexSet<&'a [u
     Ok(names)
 }
 
-impl<'a> Members<'a> {
+impl<'a> MemberTable<'a> {
     /// The members of these numbers: numbers of no pair are passed over. The stanza of each is read. Memory alone can fail.
     pub fn read(
         alloc: Global,
         universe: &Universe<'_, 'a>,
         selection: &[u32],
-    ) -> Result<Members<'a>, AllocError>
+    ) -> Result<MemberTable<'a>, AllocError>
         requires { IsOneEach (chosen universe.now selection.now) }
-        ensures { IfOk result (λ members. members ≡ filter_map (member_at universe.now) selection.now) }
+        ensures { IfOk result
+            (λ members. members ≡ filter_map (member_at universe.now) selection.now) }
     {
         let members = members_at(alloc, universe, selection)?;
         let names = names_of(alloc, members.as_slice())?;
         let ranks = ranks_of(alloc, members.as_slice())?;
-        Ok(Members {
+        Ok(MemberTable {
             members,
             names,
             ranks,
@@ -148,7 +151,7 @@ impl<'a> Members<'a> {
     }
 
     /// The members, lent.
-    pub fn lend(&self) -> &Members<'a>
+    pub fn lend(&self) -> &MemberTable<'a>
         ensures { result.now ≡ self.now }
     {
         self
@@ -162,7 +165,7 @@ impl<'a> Members<'a> {
     }
 
     /// How many members are tried.
-    pub fn tried(&self) -> usize {
+    pub fn rank_count(&self) -> usize {
         self.ranks.len()
     }
 
@@ -176,7 +179,7 @@ impl<'a> Members<'a> {
 
     /// The member of the name, if there is one. Linear in the name alone.
     pub fn of(&self, name: &[u8]) -> Option<&Member<'a>>
-        ensures found { option_copied result ≡ member_of self.now name.now }
+        ensures member { option_copied result ≡ member_of self.now name.now }
         ensures within { IfSome result (λ member. Contains self.now member.now) }
     {
         match self.names.get_index_of(name) {

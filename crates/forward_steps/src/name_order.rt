@@ -78,7 +78,7 @@ fn keys_of(alloc: Global, names: &[Name]) -> Result<Vec<Key>, AllocError>
 }
 
 // The keys in their order, each once.
-fn sorted(keys: Vec<Key>) -> Result<Vec<Key>, AllocError>
+fn keys_in_order(keys: Vec<Key>) -> Result<Vec<Key>, AllocError>
     ensures { IfOk result (λ ordered. IsInOrder keys.items ordered.items) }
 {
     let mut ordered = keys;
@@ -103,7 +103,7 @@ pub fn in_order(alloc: Global, group: &[Name]) -> Result<Names, AllocError>
     requires { 0 < length group.now }
     ensures { IfOk result (λ names. IsInOrder group.now names) }
 {
-    let keys = sorted(keys_of(alloc, group)?)?;
+    let keys = keys_in_order(keys_of(alloc, group)?)?;
     let names = names_of(alloc, keys.as_slice())?;
     Ok(Names::new(names))
 }

@@ -20,7 +20,7 @@ impl<'m, 'a> Listed<'m, 'a> {
         let mut packages = Vec::new(alloc);
         let mut places = Vec::new(alloc);
         for (place, member) in members.iter().enumerate() {
-            if let Some(listed) = member.listed() {
+            if let Some(listed) = member.stanza() {
                 packages.push(listed.pkg())?;
                 places.push(place)?;
             }
@@ -29,10 +29,10 @@ impl<'m, 'a> Listed<'m, 'a> {
     }
 
     // The place among the members of the package at this place, if it matches the atom.
-    fn matching(&self, atom: &Atom<'_>, found: usize) -> Option<usize> {
-        let pkg = self.packages.get(found)?;
+    fn matching(&self, atom: &Atom<'_>, index: usize) -> Option<usize> {
+        let pkg = self.packages.get(index)?;
         if atom.matched_by(pkg) {
-            return self.places.get(found).copied();
+            return self.places.get(index).copied();
         }
         None
     }
@@ -49,8 +49,8 @@ fn push_needs(
     for clause in clauses {
         for atom in clause.as_slice() {
             let places = providers.of(alloc, atom.name())?;
-            for found in places.as_slice() {
-                if let Some(place) = listed.matching(atom, *found) {
+            for index in places.as_slice() {
+                if let Some(place) = listed.matching(atom, *index) {
                     needs.push(place)?;
                 }
             }
@@ -67,7 +67,7 @@ fn needs_of(
     member: &Member<'_>,
 ) -> Result<Vec<usize>, AllocError> {
     let mut needs = Vec::new(alloc);
-    if let Some(own) = member.listed() {
+    if let Some(own) = member.stanza() {
         push_needs(
             alloc,
             listed,
@@ -86,7 +86,7 @@ fn needs_of(
 struct Walk {
     needs: Vec<Vec<usize>>,
     seen: Vec<bool>,
-    way: Vec<usize>,
+    path: Vec<usize>,
     left: Vec<usize>,
 }
 
@@ -103,7 +103,7 @@ impl Walk {
         Ok(Walk {
             needs,
             seen,
-            way: Vec::new(alloc),
+            path: Vec::new(alloc),
             left: Vec::new(alloc),
         })
     }
@@ -112,7 +112,7 @@ impl Walk {
     fn enter(&mut self, place: usize) -> Result<(), AllocError> {
         if self.seen.get(place) == Some(&false) {
             self.seen[place] = true;
-            self.way.push(place)?;
+            self.path.push(place)?;
         }
         Ok(())
     }
@@ -127,12 +127,12 @@ impl Walk {
 
     // Goes on by one need, or leaves a member. Answers whether some member was on the way.
     fn go_on(&mut self) -> Result<bool, AllocError> {
-        let Some(place) = self.way.pop() else {
+        let Some(place) = self.path.pop() else {
             return Ok(false);
         };
         match self.next_need(place) {
             Some(need) => {
-                self.way.push(place)?;
+                self.path.push(place)?;
                 self.enter(need)?;
             }
             None => self.left.push(place)?,
@@ -157,7 +157,7 @@ impl Walk {
 pub fn ranks_of(alloc: Global, members: &[Member<'_>]) -> Result<Vec<usize>, AllocError> {
     let mut walk = Walk::over(alloc, members)?;
     for (place, member) in members.iter().enumerate() {
-        if member.listed().is_some_and(|listed| listed.is_essential()) {
+        if member.stanza().is_some_and(|listed| listed.is_essential()) {
             walk.visit(place)?;
         }
     }

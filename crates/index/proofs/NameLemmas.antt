@@ -32,14 +32,14 @@ abbrev names_in : List (Bor (List ℕ)) → List (List ℕ)
 names_in keys = map (λ (key : Bor (List ℕ)). key.now) keys
 
 -- the step of a loop: the name of the package at the place is put behind those so far
-pub names-next : (listed : List IndexPackage) (place : ℕ) (found : IndexPackage) (keys after : List (Bor (List ℕ))) (name : Bor (List ℕ))
-    → place < length listed → found ≡ get_or listed place found → name.now ≡ found.pkg.name
+pub names-next : (listed : List IndexPackage) (place : ℕ) (item : IndexPackage) (keys after : List (Bor (List ℕ))) (name : Bor (List ℕ))
+    → place < length listed → item ≡ get_or listed place item → name.now ≡ item.pkg.name
     → after ≡ insert_key (λ (a b : Bor (List ℕ)). bytes_eq a.now b.now) keys name
-    → names_of listed ≡ fold with_name (names_in keys) (map (λ (found : IndexPackage). found.pkg.name) (drop place listed))
-    → names_of listed ≡ fold with_name (names_in after) (map (λ (found : IndexPackage). found.pkg.name) (drop (place + 1) listed))
-names-next listed place found keys after name within is named put so_far = so_far
-    ∙ ap (λ (rest : List IndexPackage). fold with_name (names_in keys) (map (λ (found : IndexPackage). found.pkg.name) rest)) (drop_more listed place found within)
-    ∙ ap (λ names. fold with_name names (map (λ (found : IndexPackage). found.pkg.name) (drop (place + 1) listed)))
+    → names_of listed ≡ fold with_name (names_in keys) (map (λ (item : IndexPackage). item.pkg.name) (drop place listed))
+    → names_of listed ≡ fold with_name (names_in after) (map (λ (item : IndexPackage). item.pkg.name) (drop (place + 1) listed))
+names-next listed place item keys after name within is named put so_far = so_far
+    ∙ ap (λ (rest : List IndexPackage). fold with_name (names_in keys) (map (λ (item : IndexPackage). item.pkg.name) rest)) (drop_more listed place item within)
+    ∙ ap (λ names. fold with_name names (map (λ (item : IndexPackage). item.pkg.name) (drop (place + 1) listed)))
     (ap (λ (here : IndexPackage). with_name (names_in keys) here.pkg.name) (sym is)
     ∙ ap (with_name (names_in keys)) (sym named)
     ∙ sym (inserted keys name) ∙ ap names_in (sym put))

@@ -83,13 +83,13 @@ module _ {X : Type 0} (name_of : X → List ℕ) where
   names_in items = map name_of items
 
   -- the step of a loop: the name of the item at the place is put behind those so far
-  pub name_put : (items : List X) (place : ℕ) (found : X) (keys after : List (Bor (List ℕ))) (name : Bor (List ℕ))
-      → place < length items → found ≡ get_or items place found → name.now ≡ name_of found
+  pub name_put : (items : List X) (place : ℕ) (item : X) (keys after : List (Bor (List ℕ))) (name : Bor (List ℕ))
+      → place < length items → item ≡ get_or items place item → name.now ≡ name_of item
       → after ≡ insert_key (λ (a b : Bor (List ℕ)). bytes_eq a.now b.now) keys name
       → fold with_name (names_at keys) (names_in (drop place items)) ≡ names_in items
       → fold with_name (names_at after) (names_in (drop (place + 1) items)) ≡ names_in items
-  name_put items place found keys after name within is named put so_far =
-      sym (ap (λ (rest : List X). fold with_name (names_at keys) (names_in rest)) (drop_more items place found within)
+  name_put items place item keys after name within is named put so_far =
+      sym (ap (λ (rest : List X). fold with_name (names_at keys) (names_in rest)) (drop_more items place item within)
       ∙ ap (λ names. fold with_name names (names_in (drop (place + 1) items)))
       (ap (λ (here : X). with_name (names_at keys) (name_of here)) (sym is)
       ∙ ap (with_name (names_at keys)) (sym named)
@@ -99,14 +99,14 @@ module _ {X : Type 0} (name_of : X → List ℕ) where
   -- What a table finds
 
   place_alike : (name : List ℕ) (items : List X)
-      → position_or_len (λ (found : X). bytes_eq name (name_of found)) items ≡ position_or_len (λ (found : X). bytes_eq (name_of found) name) items
+      → position_or_len (λ (item : X). bytes_eq name (name_of item)) items ≡ position_or_len (λ (item : X). bytes_eq (name_of item) name) items
   place_alike name [] = refl
-  place_alike name (found ∷ items) =
-      ap (λ b. cond (not b) (1 + position_or_len (λ (other : X). bytes_eq name (name_of other)) items) 0) (same_way name (name_of found))
-      ∙ ap (λ n. cond (not (bytes_eq (name_of found) name)) (1 + n) 0) (place_alike name items)
+  place_alike name (item ∷ items) =
+      ap (λ b. cond (not b) (1 + position_or_len (λ (other : X). bytes_eq name (name_of other)) items) 0) (same_way name (name_of item))
+      ∙ ap (λ n. cond (not (bytes_eq (name_of item) name)) (1 + n) 0) (place_alike name items)
 
   module _ (keys : List (Bor (List ℕ))) (items : List X) (same : names_at keys ≡ names_in items) (name : List ℕ) where
-    place_of : position_or_len (λ (key : Bor (List ℕ)). bytes_eq name key.now) keys ≡ position_or_len (λ (found : X). bytes_eq (name_of found) name) items
+    place_of : position_or_len (λ (key : Bor (List ℕ)). bytes_eq name key.now) keys ≡ position_or_len (λ (item : X). bytes_eq (name_of item) name) items
     place_of = sym (place_in_map (bytes_eq name) (λ (key : Bor (List ℕ)). key.now) keys)
         ∙ ap (position_or_len (bytes_eq name)) same
         ∙ place_in_map (bytes_eq name) name_of items
@@ -125,21 +125,21 @@ module _ {X : Type 0} (name_of : X → List ℕ) where
 
     -- the item at the place of the name's key is that of the name
     pub found_item : (place : ℕ) → Some place ≡ position (λ (key : Bor (List ℕ)). bytes_eq name key.now) keys
-        → slice_get items place ≡ find (λ (found : X). bytes_eq (name_of found) name) items
+        → slice_get items place ≡ find (λ (item : X). bytes_eq (name_of item) name) items
     found_item place is = elim (cases_Bool (ltb (position_or_len (λ (key : Bor (List ℕ)). bytes_eq name key.now) keys) (length keys))) [
       | inl inside ↦
           let at : place ≡ position_or_len (λ (key : Bor (List ℕ)). bytes_eq name key.now) keys = cc (is, position_inside inside) in
-          ap (slice_get items) (at ∙ place_of) ∙ sym (find_at (λ (found : X). bytes_eq (name_of found) name) items)
+          ap (slice_get items) (at ∙ place_of) ∙ sym (find_at (λ (item : X). bytes_eq (name_of item) name) items)
       | inr past ↦ cc (is, position_past past)
     ]
 
     -- where no key is the name, no item is of the name
     pub found_none : None ≡ position (λ (key : Bor (List ℕ)). bytes_eq name key.now) keys
-        → None ≡ find (λ (found : X). bytes_eq (name_of found) name) items
+        → None ≡ find (λ (item : X). bytes_eq (name_of item) name) items
     found_none is = elim (cases_Bool (ltb (position_or_len (λ (key : Bor (List ℕ)). bytes_eq name key.now) keys) (length keys))) [
       | inl inside ↦ cc (is, position_inside inside)
       | inr past ↦
           let beyond : length keys ≤ position_or_len (λ (key : Bor (List ℕ)). bytes_eq name key.now) keys = ltb-false _ _ past in
-          sym (find_at (λ (found : X). bytes_eq (name_of found) name) items ∙ ap (slice_get items) (sym place_of)
+          sym (find_at (λ (item : X). bytes_eq (name_of item) name) items ∙ ap (slice_get items) (sym place_of)
           ∙ slice_get_past items _ (omega (arith, as_many)))
     ]

@@ -76,7 +76,7 @@ providers-ascend name packages = IsStrictlyIncreasing-from_sorted (providers_of 
 pub providers-match : (name : List ℕ) (packages : List Pkg) (place : ℕ) → Contains (providers_of name packages) place ↔ IsProviderAt name packages place
 providers-match name packages place = (to, back)
   where
-    passed : (found : Option Pkg) → slice_get packages place ≡ found → option_map_or (is_provider name) found false ≡ true → IsProviderAt name packages place
+    passed : (item : Option Pkg) → slice_get packages place ≡ item → option_map_or (is_provider name) item false ≡ true → IsProviderAt name packages place
     passed None e passes = absurd (let f : false ≡ true = passes in cc)
     passed (Some pkg) e passes = (pkg, e, matches-test name pkg passes)
 

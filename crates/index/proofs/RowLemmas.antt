@@ -80,8 +80,8 @@ put_rows arena more rows row are is =
 
 -- the packages of rows have package names
 pub packages_named : (arch : List ℕ) (number : ℕ) (arena : List ℕ) (rows : List Row) → AreRows arena rows → HasListedNames (packages_at arch number arena rows)
-packages_named arch number arena [] are = All-nil (λ (found : IndexPackage). IsTrue (is_name found.pkg.name))
-packages_named arch number arena (row ∷ rows) are = All-cons (λ (found : IndexPackage). IsTrue (is_name found.pkg.name))
+packages_named arch number arena [] are = All-nil (λ (item : IndexPackage). IsTrue (is_name item.pkg.name))
+packages_named arch number arena (row ∷ rows) are = All-cons (λ (item : IndexPackage). IsTrue (is_name item.pkg.name))
     (package_at arch number arena row) (packages_at arch number arena rows)
     (All-head (IsRow arena) row rows are).tested.name_is_good (packages_named arch number arena rows (All-tail (IsRow arena) row rows are))
 
@@ -100,7 +100,7 @@ last_package : (arch : List ℕ) (number : ℕ) (bytes : List ℕ) (row : Row) (
     (stanza : ℕ) → values_at bytes row ≡ values → row.is_essential ≡ is_essential → row.says_essential ≡ says_essential → row.stanza ≡ stanza
     → package_at arch number bytes row ≡ package_with arch number values is_essential says_essential stanza
 last_package arch number bytes row values is_essential says_essential stanza same essential said numbered =
-    ap (λ (found : PkgValues). package_of arch number found row) same ∙ rw (essential, said, numbered) refl
+    ap (λ (these : PkgValues). package_of arch number these row) same ∙ rw (essential, said, numbered) refl
 
 -- what was kept, with one package more
 pub put_stanzas : (arch : List ℕ) (number : ℕ) (arena more : List ℕ) (rows : List Row) (skipped : ℕ) (row : Row) (values : PkgValues)
@@ -116,6 +116,6 @@ put_stanzas arch number arena more rows skipped row values is_essential says_ess
     ∙ ap (λ (held : List ℕ). packages_at arch number held (rows ++ row ∷ [])) grown
     ∙ put_package arch number arena more rows row are
     ∙ ap (λ (held : List ℕ). packages_at arch number arena rows ++ package_at arch number held row ∷ []) (sym grown)
-    ∙ ap (λ (found : IndexPackage). packages_at arch number arena rows ++ found ∷ []) last in
+    ∙ ap (λ (item : IndexPackage). packages_at arch number arena rows ++ item ∷ []) last in
     ap (λ (listed : List IndexPackage). stanzas_in listed skipped) packages
     ∙ ap (λ (count : ℕ). stanzas_in (packages_at arch number arena rows ++ package_with arch number values is_essential says_essential stanza ∷ []) count) (sym none)

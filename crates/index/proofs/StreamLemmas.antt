@@ -13,7 +13,7 @@ use Rattle.stanza.specs.Field.{value_named}
 use Rattle.stanza.specs.Stanza.{StanzaText}
 use Rattle.index.specs.Index.{ReadStanzas, entry_then, indexed_at, indexed_with, joined, read_entry, read_indexed, read_native, stanzas_of, unless_name_fault, with_stanzas}
 use Rattle.index.specs.Streamed.{after_name, native_values, read_values, unless_refused}
-use Rattle.index.specs.Walk.{Found, found_of}
+use Rattle.index.specs.Walk.{IndexFields, index_fields_of}
 use Rattle.index.specs.declared.error.IndexFault.{IndexFault}
 use Rattle.index.proofs.IndexLemmas.{with_stanzas-twice}
 
@@ -35,7 +35,7 @@ counted_is arch place stanza true = indexed_is arch place stanza (pkg_fault (fie
 counted_is arch place stanza false = refl
 
 native_is : (arch : List ℕ) (place : IndexPlace) (stanza : StanzaText) (value : Option (List ℕ))
-    → read_native arch place stanza value ≡ as_entry arch place stanza (native_values arch stanza.line (found_of stanza) value)
+    → read_native arch place stanza value ≡ as_entry arch place stanza (native_values arch stanza.line (index_fields_of stanza) value)
 native_is arch place stanza None = refl
 native_is arch place stanza (Some value) = counted_is arch place stanza (counts_for arch value)
 
@@ -46,7 +46,7 @@ named_is arch place stanza (Some refused) entry values is = refl
 
 -- a stanza gives what its values are
 pub entry_is : (arch : List ℕ) (place : IndexPlace) (stanza : StanzaText)
-    → read_entry arch place stanza ≡ as_entry arch place stanza (read_values arch stanza.line (found_of stanza))
+    → read_entry arch place stanza ≡ as_entry arch place stanza (read_values arch stanza.line (index_fields_of stanza))
 entry_is arch place stanza =
     named_is arch place stanza (pkg_name_fault (fields_of stanza)) _ _ (native_is arch place stanza (value_named (codes "Architecture") stanza.fields))
 
@@ -69,11 +69,11 @@ pub with_stanzas-last : (stanzas : ReadStanzas) → with_stanzas stanzas (Ok (re
 with_stanzas-last stanzas = ap Ok (joined-last stanzas)
 
 -- what a stanza gives, by what was read of what was found in it
-pub values_entry : (arch : List ℕ) (place : IndexPlace) (stanza : StanzaText) (line : ℕ) (found : Found) (values : Result (Option PkgValues) IndexFault)
-    → line ≡ stanza.line → found ≡ found_of stanza → read_values arch line found ≡ values → read_entry arch place stanza ≡ as_entry arch place stanza values
-values_entry arch place stanza line found values on of is =
+pub values_entry : (arch : List ℕ) (place : IndexPlace) (stanza : StanzaText) (line : ℕ) (index_fields : IndexFields) (values : Result (Option PkgValues) IndexFault)
+    → line ≡ stanza.line → index_fields ≡ index_fields_of stanza → read_values arch line index_fields ≡ values → read_entry arch place stanza ≡ as_entry arch place stanza values
+values_entry arch place stanza line index_fields values on of is =
     entry_is arch place stanza
-    ∙ ap (as_entry arch place stanza) (ap (λ (n : ℕ). read_values arch n (found_of stanza)) (sym on) ∙ ap (λ (f : Found). read_values arch line f) (sym of) ∙ is)
+    ∙ ap (as_entry arch place stanza) (ap (λ (n : ℕ). read_values arch n (index_fields_of stanza)) (sym on) ∙ ap (λ (f : IndexFields). read_values arch line f) (sym of) ∙ is)
 
 -- a package with these marks at the place
 abbrev pub with_package : ReadStanzas → Pkg → Bool → Bool → IndexPlace → ReadStanzas

@@ -9,4 +9,4 @@ with_name names name = if list_any (bytes_eq name) names then names else names +
 
 -- the distinct names of the packages, in the order in which each comes first
 abbrev pub names_of : List IndexPackage → List (List ℕ)
-names_of listed = fold with_name [] (map (λ found. found.pkg.name) listed)
+names_of listed = fold with_name [] (map (λ item. item.pkg.name) listed)

@@ -11,15 +11,15 @@ use Rattle.stanza.specs.Stanza.{StanzaText}
 
 -- what is found: the fields of the package, the value of Architecture, if there is one, whether the package is marked
 -- essential, and whether it is so by the field Essential itself
-pub record Found : Type 0 where
+pub record IndexFields : Type 0 where
   pub pkg : PkgFields
   pub architecture : Option (List ℕ)
   pub is_essential : Bool
   pub says_essential : Bool
 
 -- what is found among these fields, of a stanza that begins on this line
-abbrev pub found_in : ℕ → List FieldText → Found
-found_in line fields = record {
+abbrev pub index_fields_in : ℕ → List FieldText → IndexFields
+index_fields_in line fields = record {
   pkg = fields_in line fields;
   architecture = value_named (codes "Architecture") fields;
   is_essential = is_essential fields;
@@ -31,14 +31,14 @@ abbrev pub value_if_named : List ℕ → FieldText → Option (List ℕ)
 value_if_named name field = if same_name field.name name then Some field.value else None
 
 -- what was found, and one more field
-abbrev pub with_field : Found → FieldText → Found
-with_field found field = record {
-  pkg = Pkg.with_field found.pkg field;
-  architecture = option_or found.architecture (value_if_named (codes "Architecture") field);
-  is_essential = found.is_essential || marks_essential (field_of field);
-  says_essential = found.says_essential || field_says_essential (field_of field);
+abbrev pub with_field : IndexFields → FieldText → IndexFields
+with_field index_fields field = record {
+  pkg = Pkg.with_field index_fields.pkg field;
+  architecture = option_or index_fields.architecture (value_if_named (codes "Architecture") field);
+  is_essential = index_fields.is_essential || marks_essential (field_of field);
+  says_essential = index_fields.says_essential || field_says_essential (field_of field);
 }
 
 -- what is found in a stanza
-abbrev pub found_of : StanzaText → Found
-found_of stanza = found_in stanza.line stanza.fields
+abbrev pub index_fields_of : StanzaText → IndexFields
+index_fields_of stanza = index_fields_in stanza.line stanza.fields

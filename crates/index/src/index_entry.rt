@@ -33,7 +33,8 @@ impl<'a> IndexEntry<'a> {
     // The package of the row in these texts.
     pub(crate) fn new(kept: &'a KeptTexts, row: &'a Row) -> IndexEntry<'a>
         requires { IsRow kept.now.arena.items row.now }
-        ensures { result ≡ package_at kept.now.arch.items kept.now.number kept.now.arena.items row.now }
+        ensures { result
+            ≡ package_at kept.now.arch.items kept.now.number kept.now.arena.items row.now }
     {
         IndexEntry { kept, row }
     }

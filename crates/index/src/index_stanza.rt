@@ -63,7 +63,8 @@ impl<'a> IndexStanza<'a> {
         requires essential { is_essential ≡ marked_essential stanza.fields }
         requires said { says_essential ≡ said_essential stanza.fields }
         ensures { MatchResult result
-            (λ indexed. (pkg_fault fields.now ≡ None) × (indexed ≡ indexed_at place stanza.entry (pkg_of arch.now fields.now)))
+            (λ indexed. (pkg_fault fields.now ≡ None)
+            × (indexed ≡ indexed_at place stanza.entry (pkg_of arch.now fields.now)))
             (λ fault. pkg_fault fields.now ≡ Some fault) }
     {
         let values = fields.values()?;

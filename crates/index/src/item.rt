@@ -1,11 +1,11 @@
 //! One item of an index's text: whether its stanza counts, and what it gives.
 ghost use Rattle.std.specs.Prelude.{◌≡◌, Err, MatchResult, None, Ok, Some};
 ghost use Rattle.index.specs.Index as Spec;
-ghost use Rattle.index.specs.Walk.{found_of};
+ghost use Rattle.index.specs.Walk.{index_fields_of};
 
 use crate::error::IndexFault;
 use crate::index_stanza::IndexStanza;
-use crate::walk::Found;
+use crate::walk::IndexFields;
 use relation::counts_for;
 use rules::IndexPlace;
 use stanza::{Stanza, StanzaError};
@@ -13,20 +13,20 @@ use stanza::{Stanza, StanzaError};
 // The stanza, which counts, with the package of the fields that were found in it.
 fn read_indexed<'a>(
     stanza: &Stanza<'a>,
-    found: &Found<'a>,
+    index_fields: &IndexFields<'a>,
     arch: &'a [u8],
     place: IndexPlace,
 ) -> Result<Option<IndexStanza<'a>>, IndexFault>
-    requires { found.now ≡ found_of stanza.now }
+    requires { index_fields.now ≡ index_fields_of stanza.now }
     ensures { MatchResult result
         (λ indexed. Spec.read_indexed arch.now place stanza.now ≡ Ok indexed)
         (λ fault. Spec.read_indexed arch.now place stanza.now ≡ Err fault) }
 {
     let read = IndexStanza::read(
-        &found.pkg,
+        &index_fields.pkg,
         arch,
-        found.is_essential,
-        found.says_essential,
+        index_fields.is_essential,
+        index_fields.says_essential,
         place,
         stanza.again(),
     );
@@ -46,15 +46,15 @@ fn read_entry<'a>(
         (λ indexed. Spec.read_entry arch.now place stanza.now ≡ Ok indexed)
         (λ fault. Spec.read_entry arch.now place stanza.now ≡ Err fault) }
 {
-    let found = Found::in_stanza(stanza);
-    if let Err(fault) = found.pkg.name() {
+    let index_fields = IndexFields::in_stanza(stanza);
+    if let Err(fault) = index_fields.pkg.name() {
         return Err(IndexFault::Pkg(fault));
     }
-    match found.architecture {
+    match index_fields.architecture {
         None => Err(IndexFault::MissingArchitecture(stanza.line())),
         Some(value) => {
             if counts_for(arch, value) {
-                read_indexed(stanza, &found, arch, place)
+                read_indexed(stanza, &index_fields, arch, place)
             } else {
                 Ok(None)
             }

@@ -37,7 +37,7 @@ impl Model for KeptIndex {
 }
 
 // The bytes, copied.
-fn copied(alloc: Global, bytes: &[u8]) -> Result<Vec<u8>, AllocError>
+fn copy_of(alloc: Global, bytes: &[u8]) -> Result<Vec<u8>, AllocError>
     ensures { IfOk result (λ own. own.items ≡ bytes.now) }
 {
     let mut own = Vec::new(alloc);
@@ -66,9 +66,11 @@ impl KeptIndex {
         ensures err { (text : List ℕ) → S.left source.old ≡ Some text
             → IfErr result (λ e. IsStreamFault e (read_stream arch.now number before text)) }
         ensures sure { S.is_sure source.old ≡ true → IfErr result (λ e. e ≢ error.Read) }
-        ensures failed { IfErr result (λ e. e ≡ error.Read → S.faults source.new ≡ min (S.faults source.old + 1) (2 ^ 64 - 1)) }
+        ensures failed { IfErr result
+            (λ e. e ≡ error.Read → S.faults source.new
+            ≡ min (S.faults source.old + 1) (2 ^ 64 - 1)) }
     {
-        let own = copied(alloc, arch)?;
+        let own = copy_of(alloc, arch)?;
         let KeptRows {
             arena,
             rows,
@@ -103,7 +105,7 @@ impl KeptIndex {
     }
 
     /// How many stanzas are of another architecture.
-    pub fn skipped(&self) -> usize
+    pub fn skipped_count(&self) -> usize
         ensures { result ≡ self.now.skipped }
     {
         self.skipped

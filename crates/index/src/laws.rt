@@ -9,8 +9,10 @@ use stanza::laws::what_is_read_of_a_text_is_its_items;
 
 /// What is read of a text piece by piece is what is read of it whole, where it isn't too long.
 pub fn an_index_in_pieces_is_its_text()
-    ensures { (arch : List ℕ) (number before : ℕ) (release : Release) (text : List ℕ) → length text ≤ TEXT_BYTES
-        → with_release release (read_stream arch number before text) ≡ read_index arch number release before text }
+    ensures { (arch : List ℕ) (number before : ℕ) (release : Release) (text : List ℕ) → length text
+        ≤ TEXT_BYTES
+        → with_release release (read_stream arch number before text)
+        ≡ read_index arch number release before text }
 {
     what_is_read_of_a_text_is_its_items();
 }

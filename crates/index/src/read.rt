@@ -44,7 +44,7 @@ impl<'a> Index<'a> {
         Ok(Index {
             release,
             entries,
-            skipped: kept.skipped(),
+            skipped: kept.skipped_count(),
         })
     }
 
@@ -66,13 +66,14 @@ impl<'a> Index<'a> {
     /// The names of the packages, each once, in the order in which each is first read. Memory alone can fail. Linear in the
     /// packages.
     pub fn names(&self, alloc: Global) -> Result<IndexSet<&'a [u8]>, AllocError>
-        ensures { IfOk result (λ names. map (λ name. name.now) names.keys ≡ names_of self.now.index.listed) }
+        ensures { IfOk result
+            (λ names. map (λ name. name.now) names.keys ≡ names_of self.now.index.listed) }
     {
         distinct_names(alloc, self.packages())
     }
 
     /// How many stanzas are of another architecture.
-    pub fn skipped(&self) -> usize
+    pub fn skipped_count(&self) -> usize
         ensures { result ≡ self.now.skipped }
     {
         self.skipped

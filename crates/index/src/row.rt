@@ -109,7 +109,9 @@ pub fn provides_of<'a>(
     arch: &[u8],
 ) -> Result<Vec<Provided<'a>>, AllocError>
     requires { IsRow arena.now row.now }
-    ensures { IfOk result (λ items. items.items ≡ (spelled arch.now (values_at arena.now row.now)).relations.provides) }
+    ensures { IfOk result
+        (λ items. items.items
+        ≡ (spelled arch.now (values_at arena.now row.now)).relations.provides) }
 {
     texts_of(row, bytes_of(arena, row)).provides(alloc, arch)
 }
@@ -129,7 +131,9 @@ pub fn entries_of<'a>(
     rows: &'a [Row],
 ) -> Result<Vec<IndexEntry<'a>>, AllocError>
     requires { AreRows kept.now.arena.items rows.now }
-    ensures { IfOk result (λ entries. entries.items ≡ packages_at kept.now.arch.items kept.now.number kept.now.arena.items rows.now) }
+    ensures { IfOk result
+        (λ entries. entries.items
+        ≡ packages_at kept.now.arch.items kept.now.number kept.now.arena.items rows.now) }
 {
     let mut entries = Vec::new(alloc);
     for row in rows {

@@ -10,7 +10,7 @@ ghost use Rattle.index.specs.declared.error.IndexFault.{IndexFault as Fault};
 
 use crate::error::{IndexError, IndexFault};
 use crate::row::{Row, keep_row};
-use crate::walk::Found;
+use crate::walk::IndexFields;
 use relation::{Acceptor, PkgValues};
 use rules::{IndexPlace, PACKAGES};
 use stanza::ReadStanza;
@@ -106,13 +106,16 @@ impl KeptRows {
         ensures rows { OnOk result (AreRows self.new.arena.items self.new.rows.items) }
         ensures ok { (later : ℕ → Result Read Fault) → OnOk result (
             Spec.with_stanzas (stanzas_at arch.now place.index self.old)
-            (Spec.entry_then (before + length self.old.rows.items) (Spec.read_entry arch.now place stanza.now) later)
-            ≡ Spec.with_stanzas (stanzas_at arch.now place.index self.new) (later (before + length self.new.rows.items))) }
+            (Spec.entry_then (before + length self.old.rows.items)
+            (Spec.read_entry arch.now place stanza.now) later)
+            ≡ Spec.with_stanzas (stanzas_at arch.now place.index self.new)
+            (later (before + length self.new.rows.items))) }
         ensures err { (later : ℕ → Result Read Fault) → IfErr result (λ e. IsIndexFault e
-            (Spec.entry_then (before + length self.old.rows.items) (Spec.read_entry arch.now place stanza.now) later)) }
+            (Spec.entry_then (before + length self.old.rows.items)
+            (Spec.read_entry arch.now place stanza.now) later)) }
     {
-        let found = Found::in_read(stanza);
-        match found.values(arch, stanza.line(), acceptor)? {
+        let index_fields = IndexFields::in_read(stanza);
+        match index_fields.values(arch, stanza.line(), acceptor)? {
             None => {
                 self.skip()?;
                 Ok(())
@@ -123,8 +126,8 @@ impl KeptRows {
                 }
                 self.push(
                     &values,
-                    found.is_essential,
-                    found.says_essential,
+                    index_fields.is_essential,
+                    index_fields.says_essential,
                     place.stanza,
                 )?;
                 Ok(())

@@ -66,7 +66,8 @@ fn key(alloc: Global, stanza: &Stanza<'_>, name: &[u8]) -> Result<Option<Text>, 
 
 // The value of the field Host.
 fn host(alloc: Global, stanza: &Stanza<'_>) -> Result<Text, AllocError>
-    ensures { IfOk result (λ host. host ≡ Spec.text_or_empty (value_named (codes "Host") stanza.now.fields)) }
+    ensures { IfOk result
+        (λ host. host ≡ Spec.text_or_empty (value_named (codes "Host") stanza.now.fields)) }
 {
     match stanza.get(b"Host") {
         None => Text::copied_from(alloc, b""),
@@ -131,8 +132,10 @@ fn read_source_item<'a>(
 
 // The indices of a text that isn't too long.
 fn sources_in<'a>(alloc: Global, text: &'a [u8]) -> Result<Vec<IndexSource<'a>>, SourcesError>
-    ensures ok { IfOk result (λ sources. Spec.sources_in (items_of Commented text.now) 0 ≡ Ok sources.items) }
-    ensures err { IfErr result (λ e. IsSourcesFault e (Spec.sources_in (items_of Commented text.now) 0)) }
+    ensures ok { IfOk result
+        (λ sources. Spec.sources_in (items_of Commented text.now) 0 ≡ Ok sources.items) }
+    ensures err { IfErr result
+        (λ e. IsSourcesFault e (Spec.sources_in (items_of Commented text.now) 0)) }
 {
     let mut sources = Vec::new(alloc);
     for item in Stanzas::with_comments(text) {

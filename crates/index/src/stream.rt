@@ -36,11 +36,14 @@ pub fn read_rows<S: Source>(
 ) -> Result<KeptRows, StreamError>
     ensures rows { IfOk result (λ kept. AreRows kept.arena.items kept.rows.items) }
     ensures ok { (text : List ℕ) → S.left source.old ≡ Some text
-        → IfOk result (λ kept. read_stream arch.now number before text ≡ Ok (stanzas_at arch.now number kept)) }
+        → IfOk result
+        (λ kept. read_stream arch.now number before text
+        ≡ Ok (stanzas_at arch.now number kept)) }
     ensures err { (text : List ℕ) → S.left source.old ≡ Some text
         → IfErr result (λ e. IsStreamFault e (read_stream arch.now number before text)) }
     ensures sure { S.is_sure source.old ≡ true → IfErr result (λ e. e ≢ error.Read) }
-    ensures failed { IfErr result (λ e. e ≡ error.Read → S.faults source.new ≡ min (S.faults source.old + 1) (2 ^ 64 - 1)) }
+    ensures failed { IfErr result
+        (λ e. e ≡ error.Read → S.faults source.new ≡ min (S.faults source.old + 1) (2 ^ 64 - 1)) }
 {
     let mut kept = KeptRows::new(alloc);
     let mut place = IndexPlace {

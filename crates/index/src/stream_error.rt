@@ -4,7 +4,7 @@ ghost use Rattle.index.specs.Streamed.{of_index_error, of_read_error};
 ghost use Rattle.index.specs.declared.stream_error.StreamError.TheVariants as error;
 
 use crate::error::{IndexError, IndexFault};
-use stanza::ReadError;
+use stanza::ReaderError;
 use std::alloc::AllocError;
 use thiserror::Error;
 
@@ -22,15 +22,15 @@ pub enum StreamError {
     OutOfMemory,
 }
 
-impl From<ReadError> for StreamError {
+impl From<ReaderError> for StreamError {
     ghost from_gives = { λ read e. e ≡ of_read_error read };
 
-    fn from(read: ReadError) -> StreamError {
+    fn from(read: ReaderError) -> StreamError {
         match read {
-            ReadError::Refused(refused) => StreamError::Refused(IndexFault::Stanza(refused)),
-            ReadError::TooLarge => StreamError::Refused(IndexFault::TooLarge),
-            ReadError::Read => StreamError::Read,
-            ReadError::OutOfMemory => StreamError::OutOfMemory,
+            ReaderError::Refused(refused) => StreamError::Refused(IndexFault::Stanza(refused)),
+            ReaderError::TooLarge => StreamError::Refused(IndexFault::TooLarge),
+            ReaderError::Read => StreamError::Read,
+            ReaderError::OutOfMemory => StreamError::OutOfMemory,
         }
     }
 }

@@ -7,7 +7,7 @@ ghost use Rattle.relation.specs.PkgText.{pkg_fault};
 ghost use Rattle.relation.specs.PkgValues.{values_of};
 ghost use Rattle.rules.specs.Stanza.{marks_essential, says_essential};
 ghost use Rattle.index.specs.Streamed.{read_values, unless_refused};
-ghost use Rattle.index.specs.Walk.{found_in, found_of, with_field};
+ghost use Rattle.index.specs.Walk.{index_fields_in, index_fields_of, with_field};
 
 use crate::error::IndexFault;
 use relation::{
@@ -19,18 +19,18 @@ use std::marker::Model;
 // The fields of the package, the value of Architecture, whether the package is marked essential, and whether it is so by the
 // field Essential itself.
 #[derive(Drop)]
-pub struct Found<'a> {
+pub struct IndexFields<'a> {
     pub(crate) pkg: PkgFields<'a>,
     pub(crate) architecture: Option<&'a [u8]>,
     pub(crate) is_essential: bool,
     pub(crate) says_essential: bool,
 }
 
-impl<'a> Model for Found<'a> {
+impl<'a> Model for IndexFields<'a> {
     ghost use Rattle.std.specs.Option.{option_copied};
-    ghost use Rattle.index.specs.Walk.{Found as FoundValue};
+    ghost use Rattle.index.specs.Walk.{IndexFields as IndexFieldsValue};
 
-    ghost Value = { FoundValue };
+    ghost Value = { IndexFieldsValue };
 
     ghost view = { λ f. record {
       pkg = f.pkg;
@@ -79,11 +79,11 @@ fn counted_values<'a>(
     }
 }
 
-impl<'a> Found<'a> {
-    fn new(line: usize) -> Found<'a>
-        ensures { result ≡ found_in line [] }
+impl<'a> IndexFields<'a> {
+    fn new(line: usize) -> IndexFields<'a>
+        ensures { result ≡ index_fields_in line [] }
     {
-        Found {
+        IndexFields {
             pkg: PkgFields::new(line),
             architecture: None,
             is_essential: false,
@@ -126,25 +126,25 @@ impl<'a> Found<'a> {
     }
 
     // What is found in the stanza.
-    pub(crate) fn in_stanza(stanza: &Stanza<'a>) -> Found<'a>
-        ensures { result ≡ found_of stanza.now }
+    pub(crate) fn in_stanza(stanza: &Stanza<'a>) -> IndexFields<'a>
+        ensures { result ≡ index_fields_of stanza.now }
     {
-        let mut found = Found::new(stanza.line());
+        let mut index_fields = IndexFields::new(stanza.line());
         for field in stanza.fields() {
-            found.add(&field);
+            index_fields.add(&field);
         }
-        found
+        index_fields
     }
 
     // The same of a stanza that was read from a source.
-    pub(crate) fn in_read(stanza: &ReadStanza<'a>) -> Found<'a>
-        ensures { result ≡ found_of stanza.now }
+    pub(crate) fn in_read(stanza: &ReadStanza<'a>) -> IndexFields<'a>
+        ensures { result ≡ index_fields_of stanza.now }
     {
-        let mut found = Found::new(stanza.line());
+        let mut index_fields = IndexFields::new(stanza.line());
         for field in stanza.fields() {
-            found.add_read(&field);
+            index_fields.add_read(&field);
         }
-        found
+        index_fields
     }
 
     // The values of the package, where the stanza, which begins on this line, counts for the architecture.

@@ -36,7 +36,7 @@ IsAtAnIndex refused = (at : ℕ) × (refused.place ≡ place.Index at)
 behind : (some : List Index) (later : Result (List Index) Refusal) (refused : Refusal) → with_indices some later ≡ Err refused
     → later ≡ Err refused
 behind some (Ok indices) refused same = absurd (let e = same in cc)
-behind some (Err found) refused same = same
+behind some (Err reason) refused same = same
 
 -- the refusal of indices is at the place of one
 index_place : (arch : List ℕ) (texts : ℕ → List ℕ → Found) (number before : ℕ) (sources : List SourceText) (refused : Refusal)
@@ -52,11 +52,11 @@ index_place arch texts number before (source ∷ sources) refused same = here (i
         → index_then number read (λ count. indices_from arch texts (number + 1) (before + count) sources) ≡ Err refused
         → ((count : ℕ) → indices_from arch texts (number + 1) (before + count) sources ≡ Err refused → IsAtAnIndex refused)
         → IsAtAnIndex refused
-    here (Err found) same later = (
+    here (Err reason) same later = (
       number,
       ap (λ (r : Refusal). r.place)
-          (err-same (record { place = place.Index number; fault = found }) refused
-          (Err (record { place = place.Index number; fault = found })) refl same),
+          (err-same (record { place = place.Index number; fault = reason }) refused
+          (Err (record { place = place.Index number; fault = reason })) refl same),
     )
     here (Ok read) same later = later (length read.index.listed) (behind (read.index ∷ [])
         (indices_from arch texts (number + 1) (before + length read.index.listed) sources) refused same)
@@ -67,8 +67,8 @@ pub index_refused : (texts : Texts) (sources : List SourceText) (refused : Refus
     → (refused ≡ out_of_memory) ⊎ (read_indices texts.arch texts.index sources ≡ Err refused) → IsRefusalBefore texts refused
 unfolding read_indices
 index_refused texts sources refused status read (inl wanting) = subst (IsRefusalBefore texts) (sym wanting) refl
-index_refused texts sources refused status read (inr found) =
-    let at = index_place texts.arch texts.index 1 0 sources refused found in
+index_refused texts sources refused status read (inr index_is) =
+    let at = index_place texts.arch texts.index 1 0 sources refused index_is in
     let is : refused ≡ record { place = place.Index at.0; fault = refused.fault } = ap (λ p. record { place = p; fault = refused.fault }) at.1 in
     subst (IsRefusalBefore texts) (sym is)
-    (record { sources = sources; status = status; sources_are = read; refused = found ∙ ap Err is })
+    (record { sources = sources; status = status; sources_are = read; refused = index_is ∙ ap Err is })

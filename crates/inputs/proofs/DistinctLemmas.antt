@@ -23,8 +23,8 @@ read-ok as_fault (Ok read) value is = let e : read ≡ value = cc in cc
 read-ok as_fault (Err refused) value is = absurd (let e : Err (as_fault refused) ≡ Ok value = is in cc)
 
 -- what is read is read of a text that is found
-pub found-ok : {A : Type 0} (read : List ℕ → Result A Fault) (found : Found) (value : A) → read_found read found ≡ Ok value
-    → (text : List ℕ) × (found ≡ Some text) × (read text ≡ Ok value)
+pub found-ok : {A : Type 0} (read : List ℕ → Result A Fault) (stored : Found) (value : A) → read_found read stored ≡ Ok value
+    → (text : List ℕ) × (stored ≡ Some text) × (read text ≡ Ok value)
 found-ok read None value is = absurd (let e : Err fault.Read ≡ Ok value = is in cc)
 found-ok read (Some text) value is = (text, refl, is)
 
@@ -38,7 +38,7 @@ not-long true reading slots is = absurd (let e : Err from.TooLarge ≡ Ok slots 
 pub status-read : (texts : Texts) (slots : List FileSlot) → status_file_of texts ≡ Ok slots
     → (text : List ℕ) × (read_status texts.arch text ≡ Ok slots)
 status-read texts slots is =
-    let (text, found, read) = found-ok (status_in texts.arch) texts.status slots is in
+    let (text, there, read) = found-ok (status_in texts.arch) texts.status slots is in
     (text, read-ok (λ (refused : StatusFault). fault.Status (status_refusal refused)) (read_status texts.arch text) slots read)
 
 pub distinct_start : (texts : Texts) (start : List Record) → HasStart texts start → HasDistinctNames start

@@ -17,7 +17,7 @@ use Rattle.rules.specs.declared.release.Release.{Release}
 use Rattle.stanza.specs.declared.form.Form.TheVariants.{Plain}
 use Rattle.stanza.specs.Stanza.{StanzaText}
 use Rattle.stanza.specs.Streamed.{read_within}
-use Rattle.stanza.specs.declared.error.ReadError.{ReadError}
+use Rattle.stanza.specs.declared.error.ReaderError.{ReaderError}
 use Rattle.inputs.specs.Indices.{IsRefusedIndex, index_in, index_of, index_then, indices_from, released, with_indices, with_keys}
 use Rattle.inputs.specs.Reading.{out_of_memory, with_fault}
 use Rattle.inputs.specs.Texts.{Found, read_found}
@@ -42,40 +42,40 @@ released_more (first ∷ releases) (one ∷ kept) release stanzas same =
     ap (λ rest. (with_keys first one).index ∷ rest) (released_more releases kept release stanzas (omega (arith, same)))
 
 -- where no source is left, the indices are all that there are
-pub at_end : (arch : List ℕ) (found : ℕ → List ℕ → Found) (number before : ℕ) (all : List Index) (left : List SourceText) → length left ≡ 0
-    → with_indices all (indices_from arch found number before left) ≡ Ok all
-at_end arch found number before all [] none = ap Ok (append-nil all)
-at_end arch found number before all (source ∷ sources) none = absurd (omega (arith, none))
+pub at_end : (arch : List ℕ) (index_texts : ℕ → List ℕ → Found) (number before : ℕ) (all : List Index) (left : List SourceText) → length left ≡ 0
+    → with_indices all (indices_from arch index_texts number before left) ≡ Ok all
+at_end arch index_texts number before all [] none = ap Ok (append-nil all)
+at_end arch index_texts number before all (source ∷ sources) none = absurd (omega (arith, none))
 
 -- behind an index that is read, the indices go on
-pub goes_on : (arch : List ℕ) (found : ℕ → List ℕ → Found) (number before : ℕ) (releases further : List Release)
+pub goes_on : (arch : List ℕ) (index_texts : ℕ → List ℕ → Found) (number before : ℕ) (releases further : List Release)
     (kept more : List ReadStanzas) (left : List SourceText) (source : SourceText) (sources : List SourceText) (release : Release)
     (stanzas : ReadStanzas)
     → left ≡ source ∷ sources → release ≡ source.release
-    → index_of arch found number before source ≡ Ok (with_keys source.release stanzas)
+    → index_of arch index_texts number before source ≡ Ok (with_keys source.release stanzas)
     → length kept ≡ length releases → further ≡ releases ++ release ∷ [] → more ≡ kept ++ stanzas ∷ []
-    → with_indices (released releases kept) (indices_from arch found number before left)
-    ≡ with_indices (released further more) (indices_from arch found (number + 1) (before + length stanzas.listed) sources)
-goes_on arch found number before releases further kept more left source sources release stanzas next keys is same behind put =
-    ap (λ named. with_indices (released releases kept) (indices_from arch found number before named)) next
-    ∙ ap (λ r. with_indices (released releases kept) (index_then number r (λ count. indices_from arch found (number + 1) (before + count) sources))) is
+    → with_indices (released releases kept) (indices_from arch index_texts number before left)
+    ≡ with_indices (released further more) (indices_from arch index_texts (number + 1) (before + length stanzas.listed) sources)
+goes_on arch index_texts number before releases further kept more left source sources release stanzas next keys is same behind put =
+    ap (λ named. with_indices (released releases kept) (indices_from arch index_texts number before named)) next
+    ∙ ap (λ r. with_indices (released releases kept) (index_then number r (λ count. indices_from arch index_texts (number + 1) (before + count) sources))) is
     ∙ with_both (released releases kept) ((with_keys source.release stanzas).index ∷ [])
-    (indices_from arch found (number + 1) (before + length stanzas.listed) sources)
-    ∙ ap (λ all. with_indices all (indices_from arch found (number + 1) (before + length stanzas.listed) sources))
+    (indices_from arch index_texts (number + 1) (before + length stanzas.listed) sources)
+    ∙ ap (λ all. with_indices all (indices_from arch index_texts (number + 1) (before + length stanzas.listed) sources))
     (ap (λ r. released releases kept ++ (with_keys r stanzas).index ∷ []) (sym keys)
     ∙ sym (released_more releases kept release stanzas same)
     ∙ ap (λ rs. released rs (kept ++ stanzas ∷ [])) (sym behind) ∙ ap (released further) (sym put))
 
 -- an index that is refused is the first refusal, where all that there is comes to what is left
-pub is_refused : (arch : List ℕ) (found : ℕ → List ℕ → Found) (number before : ℕ) (all : List Index) (left : List SourceText)
+pub is_refused : (arch : List ℕ) (index_texts : ℕ → List ℕ → Found) (number before : ℕ) (all : List Index) (left : List SourceText)
     (source : SourceText) (sources : List SourceText) (refused : Refusal) (whole : Result (List Index) Refusal)
-    → left ≡ source ∷ sources → whole ≡ with_indices all (indices_from arch found number before left)
-    → IsRefusedIndex number (index_of arch found number before source) refused
+    → left ≡ source ∷ sources → whole ≡ with_indices all (indices_from arch index_texts number before left)
+    → IsRefusedIndex number (index_of arch index_texts number before source) refused
     → (refused ≡ out_of_memory) ⊎ (whole ≡ Err refused)
-is_refused arch found number before all left source sources refused whole next same (inr wanting) = inl wanting
-is_refused arch found number before all left source sources refused whole next same (inl is) = inr (same
-    ∙ ap (λ named. with_indices all (indices_from arch found number before named)) next
-    ∙ ap (λ r. with_indices all (index_then number r (λ count. indices_from arch found (number + 1) (before + count) sources))) is.0
+is_refused arch index_texts number before all left source sources refused whole next same (inr wanting) = inl wanting
+is_refused arch index_texts number before all left source sources refused whole next same (inl is) = inr (same
+    ∙ ap (λ named. with_indices all (indices_from arch index_texts number before named)) next
+    ∙ ap (λ r. with_indices all (index_then number r (λ count. indices_from arch index_texts (number + 1) (before + count) sources))) is.0
     ∙ ap (λ p. let e : Result (List Index) Refusal = Err (record { place = p; fault = refused.fault }) in e) (sym is.1))
 
 -- Indices that are lent
@@ -104,7 +104,7 @@ ok-same : {A E : Type 0} (one other : A) (made : Result A E) → made ≡ Ok one
 ok-same one other made first second = let e = sym first ∙ second in cc
 
 -- stanzas that are read behind so many packages are no more than are read in all
-stanzas_fit : (arch : List ℕ) (place : IndexPlace) (items : List (Result StanzaText ReadError)) (count : ℕ) (read : ReadStanzas)
+stanzas_fit : (arch : List ℕ) (place : IndexPlace) (items : List (Result StanzaText ReaderError)) (count : ℕ) (read : ReadStanzas)
     → stanzas_read arch place items count ≡ Ok read → count ≤ PACKAGES → count + length read.listed ≤ PACKAGES
 stanzas_fit arch place [] count read same within =
     subst (λ (r : ReadStanzas). count + length r.listed ≤ PACKAGES) (ok-same (record { listed = []; skipped = 0 }) read (stanzas_read arch place [] count) refl same) (omega arith)
@@ -137,10 +137,10 @@ stanzas_fit arch place (item ∷ items) count read same within =
     at (Ok (Some indexed)) same later = counted indexed.listed (nat_le PACKAGES count) refl same later
 
 -- an index that is read behind so many packages has no more than are read in all
-pub index_fits : (arch : List ℕ) (found : ℕ → List ℕ → Found) (number before : ℕ) (source : SourceText) (stanzas : ReadStanzas)
-    → index_of arch found number before source ≡ Ok (with_keys source.release stanzas) → before ≤ PACKAGES
+pub index_fits : (arch : List ℕ) (index_texts : ℕ → List ℕ → Found) (number before : ℕ) (source : SourceText) (stanzas : ReadStanzas)
+    → index_of arch index_texts number before source ≡ Ok (with_keys source.release stanzas) → before ≤ PACKAGES
     → before + length stanzas.listed ≤ PACKAGES
-index_fits arch found number before source stanzas same within = at (found number source.file) same
+index_fits arch index_texts number before source stanzas same within = at (index_texts number source.file) same
   where
     kept : (read : Result ReadStanzas IndexFault) → with_fault fault.Index (with_release source.release read) ≡ Ok (with_keys source.release stanzas)
         → ((r : ReadStanzas) → read ≡ Ok r → before + length r.listed ≤ PACKAGES) → before + length stanzas.listed ≤ PACKAGES

@@ -81,19 +81,19 @@ one_meaning texts u other start begin is also = (
 
 -- where a universe is built of goals, there is no fault in building it
 is_built : (start : List Record) (indices : List Index) (prefs : Preferences) (arch : List ℕ) (request : Found) (asked : ReadRequest)
-    (u : Universe) (found : Fault) → IsRequested arch request start indices prefs asked u → ¬ IsBuildFault start indices prefs asked found
+    (u : Universe) (reason : Fault) → IsRequested arch request start indices prefs asked u → ¬ IsBuildFault start indices prefs asked reason
 is_built start indices prefs arch request asked u (fault.Version kind) is no_fault = no_fault
 is_built start indices prefs arch request asked u (fault.Status refused) is no_fault = no_fault
 is_built start indices prefs arch request asked u (fault.Sources refused) is no_fault = no_fault
 is_built start indices prefs arch request asked u (fault.Index refused) is no_fault = no_fault
 is_built start indices prefs arch request asked u (fault.Preferences refused) is no_fault = no_fault
 is_built start indices prefs arch request asked u (fault.Request refused) is no_fault = no_fault
-is_built start indices prefs arch request asked u (fault.UnknownName line) is found =
-    absurd (let e : None ≡ Some line = sym is.built.known ∙ found in cc)
+is_built start indices prefs arch request asked u (fault.UnknownName line) is reason =
+    absurd (let e : None ≡ Some line = sym is.built.known ∙ reason in cc)
 is_built start indices prefs arch request asked u (fault.Plan refused) is no_fault = no_fault
 is_built start indices prefs arch request asked u (fault.Refutation refused) is no_fault = no_fault
-is_built start indices prefs arch request asked u fault.TooLarge is found =
-    let beyond = found.1 in
+is_built start indices prefs arch request asked u fault.TooLarge is reason =
+    let beyond = reason.1 in
     let equal = ap (λ (v : Universe). length v.pairs) (one_universe (inputs_of start indices prefs (asked_of asked)) u beyond.u is.built.universe beyond.universe) in
     let within = is.built.bounded in
     let over = beyond.beyond in
@@ -104,44 +104,44 @@ is_built start indices prefs arch request asked u fault.OutOfMemory is no_fault 
 
 -- a request that is answered has no fault
 not_requested : (arch : List ℕ) (request : Found) (start : List Record) (indices : List Index) (prefs : Preferences) (asked : ReadRequest)
-    (u : Universe) (found : Fault)
-    → IsRequested arch request start indices prefs asked u → ¬ IsRequestFault arch request start indices prefs found
-not_requested arch request start indices prefs asked u found is (inl refused) =
-    not-both asked found (request_in arch request) is.read refused
-not_requested arch request start indices prefs asked u found is (inr stopped) =
-    is_built start indices prefs arch request asked u found is
-    (subst (λ (a : ReadRequest). IsBuildFault start indices prefs a found)
+    (u : Universe) (reason : Fault)
+    → IsRequested arch request start indices prefs asked u → ¬ IsRequestFault arch request start indices prefs reason
+not_requested arch request start indices prefs asked u reason is (inl refused) =
+    not-both asked reason (request_in arch request) is.read refused
+not_requested arch request start indices prefs asked u reason is (inr stopped) =
+    is_built start indices prefs arch request asked u reason is
+    (subst (λ (a : ReadRequest). IsBuildFault start indices prefs a reason)
     (ok-same stopped.asked asked (request_in arch request) stopped.read is.read) stopped.fault)
 
 -- texts that have a meaning have no request that is refused
-not_asked : (texts : Texts) (u : Universe) (start : List Record) (found : Fault) → Denotes texts u start
-    → ¬ IsAsked texts found
-not_asked texts u start found is asked = not_requested texts.arch texts.request start is.indices is.prefs is.asked u found is.requested
-    (subst (λ prefs. IsRequestFault texts.arch texts.request start is.indices prefs found)
+not_asked : (texts : Texts) (u : Universe) (start : List Record) (reason : Fault) → Denotes texts u start
+    → ¬ IsAsked texts reason
+not_asked texts u start reason is asked = not_requested texts.arch texts.request start is.indices is.prefs is.asked u reason is.requested
+    (subst (λ prefs. IsRequestFault texts.arch texts.request start is.indices prefs reason)
     (one_preferring texts asked.start start asked.indices is.indices asked.prefs is.prefs asked.read is.read)
-    (subst (λ indices. IsRequestFault texts.arch texts.request start indices asked.prefs found)
+    (subst (λ indices. IsRequestFault texts.arch texts.request start indices asked.prefs reason)
     (one_reading texts asked.start start asked.indices is.indices asked.read.listed is.read.listed)
-    (subst (λ db. IsRequestFault texts.arch texts.request db asked.indices asked.prefs found)
+    (subst (λ db. IsRequestFault texts.arch texts.request db asked.indices asked.prefs reason)
     (one_start_of texts asked.start start asked.indices is.indices asked.read.listed is.read.listed) asked.refused)))
 
 -- texts that have a meaning have no fault before the request but want of memory
-not_before : (texts : Texts) (u : Universe) (start : List Record) (where_ : Input) (found : Fault)
-    → Denotes texts u start → IsFaultBefore texts where_ found → record { place = where_; fault = found } ≡ out_of_memory
-not_before texts u start (place.Version number) found is refused = absurd refused
-not_before texts u start place.Status found is refused =
-    absurd (not-both is.read.listed.started.slots found (status_file_of texts) is.read.listed.started.status refused)
-not_before texts u start place.Sources found is refused =
-    absurd (not-both is.read.listed.indexed.sources found (sources_of texts) is.read.listed.indexed.sources_are refused.1)
-not_before texts u start (place.Index number) found is refused =
+not_before : (texts : Texts) (u : Universe) (start : List Record) (where_ : Input) (reason : Fault)
+    → Denotes texts u start → IsFaultBefore texts where_ reason → record { place = where_; fault = reason } ≡ out_of_memory
+not_before texts u start (place.Version number) reason is refused = absurd refused
+not_before texts u start place.Status reason is refused =
+    absurd (not-both is.read.listed.started.slots reason (status_file_of texts) is.read.listed.started.status refused)
+not_before texts u start place.Sources reason is refused =
+    absurd (not-both is.read.listed.indexed.sources reason (sources_of texts) is.read.listed.indexed.sources_are refused.1)
+not_before texts u start (place.Index number) reason is refused =
     let same = ok-same is.read.listed.indexed.sources refused.sources (sources_of texts) is.read.listed.indexed.sources_are refused.sources_are in
-    absurd (not-both is.indices (record { place = place.Index number; fault = found }) (read_indices texts.arch texts.index refused.sources)
+    absurd (not-both is.indices (record { place = place.Index number; fault = reason }) (read_indices texts.arch texts.index refused.sources)
     (ap (λ named. read_indices texts.arch texts.index named) (sym same) ∙ is.read.listed.indexed.indices_are) refused.refused)
-not_before texts u start place.Preferences found is refused =
-    absurd (not-both is.prefs found (preferences_of texts) is.read.preferred refused.refused)
-not_before texts u start place.Request found is refused = absurd refused
-not_before texts u start place.Plan found is refused = absurd refused
-not_before texts u start place.Refutation found is refused = absurd refused
-not_before texts u start place.Memory found is refused = ap (λ (f : Fault). record { place = place.Memory; fault = f }) refused
+not_before texts u start place.Preferences reason is refused =
+    absurd (not-both is.prefs reason (preferences_of texts) is.read.preferred refused.refused)
+not_before texts u start place.Request reason is refused = absurd refused
+not_before texts u start place.Plan reason is refused = absurd refused
+not_before texts u start place.Refutation reason is refused = absurd refused
+not_before texts u start place.Memory reason is refused = ap (λ (f : Fault). record { place = place.Memory; fault = f }) refused
 
 pub meaning_is_not_refused : MeaningIsNotRefused
 meaning_is_not_refused texts u start refused is (inl before) = not_before texts u start refused.place refused.fault is before

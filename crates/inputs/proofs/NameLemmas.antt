@@ -32,7 +32,7 @@ use Rattle.stanza.specs.declared.form.Form.TheVariants.{Plain}
 use Rattle.stanza.specs.Field.{FieldText}
 use Rattle.stanza.specs.Stanza.{StanzaText, items_of}
 use Rattle.stanza.specs.Streamed.{read_within}
-use Rattle.stanza.specs.declared.error.ReadError.{ReadError}
+use Rattle.stanza.specs.declared.error.ReaderError.{ReaderError}
 use Rattle.index.specs.Sources.{SourceText}
 use Rattle.inputs.specs.Indices.{index_in}
 use Rattle.inputs.specs.Reading.{with_fault}
@@ -49,7 +49,7 @@ use mathlib.Core.Logic.{inl, inr}
 
 -- the record has a package name
 abbrev pub IsNamed : Record → Type 0
-IsNamed found = IsTrue (is_name found.name)
+IsNamed entry = IsTrue (is_name entry.name)
 
 -- the package of the stanza has a package name
 abbrev pub IsListedNamed : IndexPackage → Type 0
@@ -70,42 +70,42 @@ ok_is x y same = cc
 -- Records
 
 -- a stanza that has a mark has a package name
-named_by_mark : (stanza : StanzaText) (found : Mark) → mark.read_mark stanza ≡ Ok found → is_name (mark.name_in stanza) ≡ true
-named_by_mark stanza found is = named stanza.line (fields_of stanza).name
+named_by_mark : (stanza : StanzaText) (words : Mark) → mark.read_mark stanza ≡ Ok words → is_name (mark.name_in stanza) ≡ true
+named_by_mark stanza words is = named stanza.line (fields_of stanza).name
     (at (pkg_name_fault (fields_of stanza)) (mark.mark_in stanza (Rattle.relation.specs.PkgFields.field_named (Rattle.std.specs.Prelude.codes "Status") stanza.fields)) is)
   where
-    at : (fault : Option PkgFault) (later : Result Mark StatusFault) → mark.unless_fault fault later ≡ Ok found → fault ≡ None
+    at : (fault : Option PkgFault) (later : Result Mark StatusFault) → mark.unless_fault fault later ≡ Ok words → fault ≡ None
     at None later is = refl
     at (Some refused) later is = absurd (let e = is in cc)
 
 -- the record of a slot has the name of its stanza
 name_of_slot : (arch : List ℕ) (seen : List (List ℕ)) (stanza : StanzaText) (entry : FileRecord)
-    → slot_read.read_slot arch seen stanza ≡ Ok (Recorded entry) → IsNamed entry.found
+    → slot_read.read_slot arch seen stanza ≡ Ok (Recorded entry) → IsNamed entry.status
 name_of_slot arch seen stanza entry is = at (mark.read_mark stanza) refl is
   where
-    new : (found : Mark) (b : Bool) (fault : Option PkgFault)
+    new : (words : Mark) (b : Bool) (fault : Option PkgFault)
         → (if b then Err (Rattle.status_text.specs.declared.error.StatusFault.TheVariants.DuplicatePackage (mark.name_in stanza))
-        else mark.unless_fault fault (Ok (Recorded (slot_read.entry_of arch stanza found)))) ≡ Ok (Recorded entry)
-        → entry.found.name ≡ mark.name_in stanza
-    new found true fault is = absurd (let e = is in cc)
-    new found false (Some fault) is = absurd (let e = is in cc)
-    new found false None is =
-        let same : slot_read.entry_of arch stanza found ≡ entry = (let e : Ok (Recorded (slot_read.entry_of arch stanza found)) ≡ Ok (Recorded entry) = is in cc) in
-        sym (ap (λ (one : FileRecord). one.found.name) same)
+        else mark.unless_fault fault (Ok (Recorded (slot_read.entry_of arch stanza words)))) ≡ Ok (Recorded entry)
+        → entry.status.name ≡ mark.name_in stanza
+    new words true fault is = absurd (let e = is in cc)
+    new words false (Some fault) is = absurd (let e = is in cc)
+    new words false None is =
+        let same : slot_read.entry_of arch stanza words ≡ entry = (let e : Ok (Recorded (slot_read.entry_of arch stanza words)) ≡ Ok (Recorded entry) = is in cc) in
+        sym (ap (λ (one : FileRecord). one.status.name) same)
 
-    counted : (found : Mark) (does : Result Bool StatusFault) → slot_read.read_counted arch seen stanza found does ≡ Ok (Recorded entry)
-        → entry.found.name ≡ mark.name_in stanza
-    counted found (Err refused) is = absurd (let e = is in cc)
-    counted found (Ok false) is = absurd (let e = is in cc)
-    counted found (Ok true) is = new found (slot_read.is_seen seen (mark.name_in stanza)) (slot_read.later_fault found.state stanza) is
+    counted : (words : Mark) (does : Result Bool StatusFault) → slot_read.read_counted arch seen stanza words does ≡ Ok (Recorded entry)
+        → entry.status.name ≡ mark.name_in stanza
+    counted words (Err refused) is = absurd (let e = is in cc)
+    counted words (Ok false) is = absurd (let e = is in cc)
+    counted words (Ok true) is = new words (slot_read.is_seen seen (mark.name_in stanza)) (slot_read.later_fault words.state stanza) is
 
     at : (read : Result Mark StatusFault) → mark.read_mark stanza ≡ read → slot_read.read_marked arch seen stanza read ≡ Ok (Recorded entry)
-        → IsNamed entry.found
+        → IsNamed entry.status
     at (Err refused) was is = absurd (let e = is in cc)
-    at (Ok found) was is =
-        let same = counted found (mark.counts arch stanza found.state) is in
+    at (Ok words) was is =
+        let same = counted words (mark.counts arch stanza words.state) is in
         let Is : List ℕ → Type 0 = λ name. is_name name ≡ true in
-        subst Is (sym same) (named_by_mark stanza found was)
+        subst Is (sym same) (named_by_mark stanza words was)
 
 -- the records of the items have package names
 slots_named : (arch : List ℕ) (items : List (Result StanzaText StanzaError)) (seen : List (List ℕ)) (slots : List FileSlot)
@@ -118,9 +118,9 @@ slots_named arch (item ∷ items) seen slots is =
   where
     put : (slot : FileSlot) (rest : List FileSlot) → status.read_item arch seen item ≡ Ok slot → All IsNamed (records_of (entries_of rest))
         → All IsNamed (records_of (entries_of (slot ∷ rest)))
-    put (Recorded entry) rest was all = All-cons IsNamed entry.found (records_of (entries_of rest)) (of_item item entry was) all
+    put (Recorded entry) rest was all = All-cons IsNamed entry.status (records_of (entries_of rest)) (of_item item entry was) all
       where
-        of_item : (item : Result StanzaText StanzaError) (entry : FileRecord) → status.read_item arch seen item ≡ Ok (Recorded entry) → IsNamed entry.found
+        of_item : (item : Result StanzaText StanzaError) (entry : FileRecord) → status.read_item arch seen item ≡ Ok (Recorded entry) → IsNamed entry.status
         of_item (Err refused) entry was = absurd (let e = was in cc)
         of_item (Ok stanza) entry was = name_of_slot arch seen stanza entry was
     put (Foreign stanza) rest was all = all
@@ -194,13 +194,13 @@ entry_named arch place stanza entry is =
         subst Is (sym same) (named stanza.line (fields_of stanza).name was)
 
 -- what an item gives has a package name
-item_named : (arch : List ℕ) (place : IndexPlace) (item : Result StanzaText ReadError) (entry : IndexStanza)
+item_named : (arch : List ℕ) (place : IndexPlace) (item : Result StanzaText ReaderError) (entry : IndexStanza)
     → read_streamed arch place item ≡ Ok (Some entry) → IsListedNamed entry.listed
 item_named arch place (Err refused) entry is = absurd (let e = is in cc)
 item_named arch place (Ok stanza) entry is = entry_named arch place stanza entry is
 
 -- the packages of the items have package names
-stanzas_named : (arch : List ℕ) (place : IndexPlace) (items : List (Result StanzaText ReadError)) (count : ℕ) (read : ReadStanzas)
+stanzas_named : (arch : List ℕ) (place : IndexPlace) (items : List (Result StanzaText ReaderError)) (count : ℕ) (read : ReadStanzas)
     → stanzas_read arch place items count ≡ Ok read → All IsListedNamed read.listed
 stanzas_named arch place [] count read is =
     let same : record { listed = []; skipped = 0 } ≡ read = ok_is _ read is in
@@ -230,8 +230,8 @@ stanzas_named arch place (item ∷ items) count read is =
         (λ rest so. all (count + length (stanzas_of entry).listed) rest so) is
 
     at : ((later : ℕ) (rest : ReadStanzas) → stanzas_read arch (next_place place) items later ≡ Ok rest → All IsListedNamed rest.listed)
-        → (found : Result (Option IndexStanza) IndexFault) → read_streamed arch place item ≡ found
-        → entry_then count found (stanzas_read arch (next_place place) items) ≡ Ok read → All IsListedNamed read.listed
+        → (answer : Result (Option IndexStanza) IndexFault) → read_streamed arch place item ≡ answer
+        → entry_then count answer (stanzas_read arch (next_place place) items) ≡ Ok read → All IsListedNamed read.listed
     at all (Err refused) was is = absurd (let e = is in cc)
     at all (Ok entry) was is = few all entry (is_too_many count entry) was is
 
@@ -240,8 +240,8 @@ pub index_named : (arch : List ℕ) (number : ℕ) (before : ℕ) (source : Sour
     → index_in arch number before source text ≡ Ok read → All IsListedNamed read.index.listed
 index_named arch number before source text read is = at (read_stream arch number before text) refl is
   where
-    at : (found : Result ReadStanzas IndexFault) → read_stream arch number before text ≡ found
-        → with_fault fault.Index (with_release source.release found) ≡ Ok read → All IsListedNamed read.index.listed
+    at : (answer : Result ReadStanzas IndexFault) → read_stream arch number before text ≡ answer
+        → with_fault fault.Index (with_release source.release answer) ≡ Ok read → All IsListedNamed read.index.listed
     at (Err refused) was is = absurd (let e = is in cc)
     at (Ok rest) was is = subst (λ (r : ReadIndex). All IsListedNamed r.index.listed) (ok_is _ read is)
         (stanzas_named arch (first_place number) (read_within Plain 1 TEXT_BYTES text) before rest was)
@@ -262,16 +262,16 @@ pub package_named : (inputs : Inputs) (name version : List ℕ) (pkg : Pkg) → 
     → All IsListedNamed (all_listed inputs.indices) → counting_package inputs name version ≡ Some pkg → IsTrue (is_name pkg.name)
 package_named inputs name version pkg records listed is = at (standing_record inputs.start name version) refl is
   where
-    behind : (found : Option IndexPackage) → index_package inputs.indices name version ≡ found
-        → option_map (λ (one : IndexPackage). one.pkg) found ≡ Some pkg → IsTrue (is_name pkg.name)
+    behind : (stanza : Option IndexPackage) → index_package inputs.indices name version ≡ stanza
+        → option_map (λ (one : IndexPackage). one.pkg) stanza ≡ Some pkg → IsTrue (is_name pkg.name)
     behind None was is = absurd (let e : None ≡ Some pkg = is in cc)
     behind (Some one) was is =
         let Is : Pkg → Type 0 = λ p. IsTrue (is_name p.name) in
         subst Is (same_Some one.pkg pkg is) (All-contains IsListedNamed (all_listed inputs.indices) one listed
         (found_in (λ (l : IndexPackage). is_of name version l.pkg) (all_listed inputs.indices) one was))
 
-    at : (found : Option Record) → standing_record inputs.start name version ≡ found
-        → option_or (option_map database.pkg_of found) (option_map (λ (one : IndexPackage). one.pkg) (index_package inputs.indices name version)) ≡ Some pkg
+    at : (entry : Option Record) → standing_record inputs.start name version ≡ entry
+        → option_or (option_map database.pkg_of entry) (option_map (λ (one : IndexPackage). one.pkg) (index_package inputs.indices name version)) ≡ Some pkg
         → IsTrue (is_name pkg.name)
     at None was is = behind (index_package inputs.indices name version) refl is
     at (Some one) was is =

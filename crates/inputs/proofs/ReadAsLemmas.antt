@@ -39,14 +39,14 @@ lent_listed texts start releases lent made view started indexed makes views = re
 
 -- the texts with their own request are the texts
 pub asking-same : (texts : Texts) (request : List ℕ) → texts.request ≡ Some request → asking request texts ≡ texts
-asking-same texts request there = ap (λ (found : Found). record {
+asking-same texts request there = ap (λ (text : Found). record {
   arch = texts.arch;
   target = texts.target;
   status = texts.status;
   sources = texts.sources;
   index = texts.index;
   preferences = texts.preferences;
-  request = found;
+  request = text;
 }) (sym there)
 
 -- the texts before the request are read alike, whatever the request is
@@ -69,14 +69,14 @@ read-asking texts request start indices prefs is = record {
 }
 
 -- a fault of the request is a refusal of the texts with it
-pub request-refused : (texts : Texts) (before : Before) (request : List ℕ) (records : List Record) (found : Fault) (refused : Refusal)
+pub request-refused : (texts : Texts) (before : Before) (request : List ℕ) (records : List Record) (reason : Fault) (refused : Refusal)
     → AreReadAs texts before → records ≡ start_of before
-    → OrMemory (IsRequestFault before.settings.now.arch.now (Some request) records (indices_of before.indices.now) before.prefs.now) found
-    → IsPlaced place.Request found refused → IsRefusal (asking request texts) refused
-request-refused texts before request records found refused read same is (inl wanting) =
+    → OrMemory (IsRequestFault before.settings.now.arch.now (Some request) records (indices_of before.indices.now) before.prefs.now) reason
+    → IsPlaced place.Request reason refused → IsRefusal (asking request texts) refused
+request-refused texts before request records reason refused read same is (inl wanting) =
     subst (IsRefusal (asking request texts)) (sym wanting.1) (inl refl)
-request-refused texts before request records found refused read same (inl memory) (inr placed) = absurd (placed.0 memory)
-request-refused texts before request records found refused read same (inr is) (inr placed) =
+request-refused texts before request records reason refused read same (inl memory) (inr placed) = absurd (placed.0 memory)
+request-refused texts before request records reason refused read same (inr is) (inr placed) =
     subst (IsRefusal (asking request texts)) (sym placed.1) (inr (record {
       place = refl;
       asked = record {
@@ -84,9 +84,9 @@ request-refused texts before request records found refused read same (inr is) (i
         indices = indices_of before.indices.now;
         prefs = before.prefs.now;
         read = read-asking texts request (start_of before) (indices_of before.indices.now) before.prefs.now read.read;
-        refused = subst (λ (arch : List ℕ). IsRequestFault arch (Some request) (start_of before) (indices_of before.indices.now) before.prefs.now found)
+        refused = subst (λ (arch : List ℕ). IsRequestFault arch (Some request) (start_of before) (indices_of before.indices.now) before.prefs.now reason)
             (sym read.arch)
-            (subst (λ (start : List Record). IsRequestFault before.settings.now.arch.now (Some request) start (indices_of before.indices.now) before.prefs.now found)
+            (subst (λ (start : List Record). IsRequestFault before.settings.now.arch.now (Some request) start (indices_of before.indices.now) before.prefs.now reason)
             same is);
       };
     }))

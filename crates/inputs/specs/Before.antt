@@ -25,11 +25,11 @@ abbrev pub HasStatus : Texts → Type 0
 HasStatus texts = (start : List Record) × HasStart texts start
 
 -- the texts before the indices are read, and the first refusal of the indices is this one
-pub record IsIndexFault (texts : Texts) (number : ℕ) (found : Fault) : Type 0 where
+pub record IsIndexFault (texts : Texts) (number : ℕ) (reason : Fault) : Type 0 where
   pub sources : List SourceText
   pub status : HasStatus texts
   pub sources_are : sources_of texts ≡ Ok sources
-  pub refused : read_indices texts.arch texts.index sources ≡ Err (record { place = place.Index number; fault = found })
+  pub refused : read_indices texts.arch texts.index sources ≡ Err (record { place = place.Index number; fault = reason })
 
 -- the sources and the indices are read without refusal, as these indices
 pub record HasIndices (texts : Texts) (indices : List Index) : Type 0 where
@@ -43,11 +43,11 @@ pub record AreListed (texts : Texts) (start : List Record) (indices : List Index
   pub indexed : HasIndices texts indices
 
 -- the texts before the preferences are read, and the preferences have the fault
-pub record IsPreferencesFault (texts : Texts) (found : Fault) : Type 0 where
+pub record IsPreferencesFault (texts : Texts) (reason : Fault) : Type 0 where
   pub start : List Record
   pub indices : List Index
   pub listed : AreListed texts start indices
-  pub refused : preferences_of texts ≡ Err found
+  pub refused : preferences_of texts ≡ Err reason
 
 -- the texts before the request are read without refusal, as this start, these indices and these preferences
 pub record AreRead (texts : Texts) (start : List Record) (indices : List Index) (prefs : Preferences) : Type 0 where
@@ -57,15 +57,15 @@ pub record AreRead (texts : Texts) (start : List Record) (indices : List Index) 
 -- the texts before the place are read, and the text at the place, which is before the request, has the fault; of no text,
 -- memory was wanting
 abbrev pub IsFaultBefore : Texts → Input → Fault → Type 0
-IsFaultBefore texts (place.Version number) found = ⊥
-IsFaultBefore texts place.Status found = status_file_of texts ≡ Err found
-IsFaultBefore texts place.Sources found = HasStatus texts × (sources_of texts ≡ Err found)
-IsFaultBefore texts (place.Index number) found = IsIndexFault texts number found
-IsFaultBefore texts place.Preferences found = IsPreferencesFault texts found
-IsFaultBefore texts place.Request found = ⊥
-IsFaultBefore texts place.Plan found = ⊥
-IsFaultBefore texts place.Refutation found = ⊥
-IsFaultBefore texts place.Memory found = found ≡ fault.OutOfMemory
+IsFaultBefore texts (place.Version number) reason = ⊥
+IsFaultBefore texts place.Status reason = status_file_of texts ≡ Err reason
+IsFaultBefore texts place.Sources reason = HasStatus texts × (sources_of texts ≡ Err reason)
+IsFaultBefore texts (place.Index number) reason = IsIndexFault texts number reason
+IsFaultBefore texts place.Preferences reason = IsPreferencesFault texts reason
+IsFaultBefore texts place.Request reason = ⊥
+IsFaultBefore texts place.Plan reason = ⊥
+IsFaultBefore texts place.Refutation reason = ⊥
+IsFaultBefore texts place.Memory reason = reason ≡ fault.OutOfMemory
 
 -- the first refusal of the texts before the request, in the order of reading
 abbrev pub IsRefusalBefore : Texts → Refusal → Type 0

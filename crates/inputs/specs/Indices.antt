@@ -29,18 +29,18 @@ index_then number (Ok read) later = with_indices (read.index ∷ []) (later (len
 
 -- what the index of this number is read as, where the text of its source is found
 abbrev pub index_of : List ℕ → (ℕ → List ℕ → Found) → ℕ → ℕ → SourceText → Result ReadIndex Fault
-index_of arch found number before source = read_found (index_in arch number before source) (found number source.file)
+index_of arch index_texts number before source = read_found (index_in arch number before source) (index_texts number source.file)
 
 -- the indices of these sources, each with the release keys of its source, or the first refusal: the first index has this
 -- number, and so many packages are in those before it
 abbrev pub indices_from : List ℕ → (ℕ → List ℕ → Found) → ℕ → ℕ → List SourceText → Result (List Index) Refusal
-indices_from arch found number before [] = Ok []
-indices_from arch found number before (source ∷ sources) =
-    index_then number (index_of arch found number before source) (λ count. indices_from arch found (number + 1) (before + count) sources)
+indices_from arch index_texts number before [] = Ok []
+indices_from arch index_texts number before (source ∷ sources) =
+    index_then number (index_of arch index_texts number before source) (λ count. indices_from arch index_texts (number + 1) (before + count) sources)
 
 -- the indices of the sources, or the first refusal; they are counted from 1
 unfoldable pub read_indices : List ℕ → (ℕ → List ℕ → Found) → List SourceText → Result (List Index) Refusal
-read_indices arch found sources = indices_from arch found 1 0 sources
+read_indices arch index_texts sources = indices_from arch index_texts 1 0 sources
 
 -- the index that was kept, with these release keys
 abbrev pub with_keys : Release → ReadStanzas → ReadIndex

@@ -17,7 +17,7 @@ use Rattle.inputs.specs.declared.refusal.Fault.TheVariants as fault
 
 -- what a request is read as
 abbrev pub request_in : List ℕ → Found → Result ReadRequest Fault
-request_in arch found = read_found (λ text. with_fault fault.Request (read_request arch text)) found
+request_in arch request = read_found (λ text. with_fault fault.Request (read_request arch text)) request
 
 -- what a request asks for
 abbrev pub asked_of : ReadRequest → Request
@@ -38,15 +38,15 @@ IsBuildFault start indices prefs asked fault.TooLarge =
 IsBuildFault start indices prefs asked other = ⊥
 
 -- the request is read, and no universe of it is built for this fault
-pub record IsNotBuilt (arch : List ℕ) (request : Found) (start : List Record) (indices : List Index) (prefs : Preferences) (found : Fault) : Type 0 where
+pub record IsNotBuilt (arch : List ℕ) (request : Found) (start : List Record) (indices : List Index) (prefs : Preferences) (reason : Fault) : Type 0 where
   pub asked : ReadRequest
   pub read : request_in arch request ≡ Ok asked
-  pub fault : IsBuildFault start indices prefs asked found
+  pub fault : IsBuildFault start indices prefs asked reason
 
 -- the request has this fault
 abbrev pub IsRequestFault : List ℕ → Found → List Record → List Index → Preferences → Fault → Type 0
-IsRequestFault arch request start indices prefs found =
-    (request_in arch request ≡ Err found) ⊎ IsNotBuilt arch request start indices prefs found
+IsRequestFault arch request start indices prefs reason =
+    (request_in arch request ≡ Err reason) ⊎ IsNotBuilt arch request start indices prefs reason
 
 -- All texts
 
@@ -64,9 +64,9 @@ pub record DenotesAsked (texts : Texts) (u : Universe) (start : List Record) (as
   pub asks : asks_all_versions ≡ denoted.asked.asks_all_versions
 
 -- the texts before the request are read, and the request has the fault
-pub record IsAsked (texts : Texts) (found : Fault) : Type 0 where
+pub record IsAsked (texts : Texts) (reason : Fault) : Type 0 where
   pub start : List Record
   pub indices : List Index
   pub prefs : Preferences
   pub read : AreRead texts start indices prefs
-  pub refused : IsRequestFault texts.arch texts.request start indices prefs found
+  pub refused : IsRequestFault texts.arch texts.request start indices prefs reason

@@ -15,11 +15,11 @@ with_fault as_fault (Err refused) = Err (as_fault refused)
 
 -- the fault is one of these, or want of memory
 abbrev pub OrMemory : (Fault → Type 0) → Fault → Type 0
-OrMemory Is found = (found ≡ fault.OutOfMemory) ⊎ Is found
+OrMemory Is reason = (reason ≡ fault.OutOfMemory) ⊎ Is reason
 
 -- the fault is that of this reading, or want of memory
 abbrev pub IsFaultOf : {A : Type 0} → Result A Fault → Fault → Type 0
-IsFaultOf read found = OrMemory (λ refused. read ≡ Err refused) found
+IsFaultOf read reason = OrMemory (λ refused. read ≡ Err refused) reason
 
 -- the refusal for want of memory
 abbrev pub out_of_memory : Refusal
@@ -27,16 +27,16 @@ out_of_memory = record { place = place.Memory; fault = fault.OutOfMemory }
 
 -- a fault of the text at this place as a refusal: of no text, where memory was wanting
 abbrev pub IsPlaced : Input → Fault → Refusal → Type 0
-IsPlaced where_ found refused = ((found ≡ fault.OutOfMemory) × (refused ≡ out_of_memory))
-    ⊎ ((found ≢ fault.OutOfMemory) × (refused ≡ record { place = where_; fault = found }))
+IsPlaced where_ reason refused = ((reason ≡ fault.OutOfMemory) × (refused ≡ out_of_memory))
+    ⊎ ((reason ≢ fault.OutOfMemory) × (refused ≡ record { place = where_; fault = reason }))
 
 -- the text at the place isn't found, and is refused for that; or memory was wanting
 abbrev pub IsUnread : Input → Option (List ℕ) → Refusal → Type 0
-IsUnread where_ found refused = ((found ≡ None) × (refused ≡ record { place = where_; fault = fault.Read })) ⊎ (refused ≡ out_of_memory)
+IsUnread where_ text refused = ((text ≡ None) × (refused ≡ record { place = where_; fault = fault.Read })) ⊎ (refused ≡ out_of_memory)
 
 -- the preferences are asked for and aren't found, and are refused for that; or memory was wanting
 abbrev pub AreUnread : Option (Option (List ℕ)) → Refusal → Type 0
-AreUnread found refused = ((found ≡ Some None) × (refused ≡ record { place = place.Preferences; fault = fault.Read })) ⊎ (refused ≡ out_of_memory)
+AreUnread text refused = ((text ≡ Some None) × (refused ≡ record { place = place.Preferences; fault = fault.Read })) ⊎ (refused ≡ out_of_memory)
 
 -- the refusal of the text at the place that couldn't be read
 abbrev pub unread_at : Input → ReadError → Refusal

@@ -12,8 +12,8 @@ use Rattle.inputs.specs.Reading.{with_fault}
 use Rattle.inputs.specs.declared.refusal.Fault.{Fault}
 use Rattle.inputs.specs.declared.refusal.Fault.TheVariants as fault
 use Rattle.inputs.specs.declared.settings.Settings.{Settings}
-use Rattle.inputs.specs.declared.shelf.Part.{Part}
-use Rattle.inputs.specs.declared.shelf.Part.TheVariants as part
+use Rattle.inputs.specs.declared.shelf.WholeText.{WholeText}
+use Rattle.inputs.specs.declared.shelf.WholeText.TheVariants as part
 use Rattle.inputs.specs.declared.status_refusal.StatusRefusal.{StatusRefusal}
 use Rattle.inputs.specs.declared.status_refusal.StatusRefusal.TheVariants as refusal
 
@@ -32,7 +32,7 @@ pub record Shelved : Type 0 where
   pub judged : Found
 
 -- the text that is read whole for this part
-abbrev pub part_of : Shelved → Part → Found
+abbrev pub part_of : Shelved → WholeText → Found
 part_of shelved part.Status = shelved.status
 part_of shelved part.Sources = shelved.sources
 part_of shelved part.Request = shelved.request
@@ -93,7 +93,7 @@ with_target target (Ok records) = Ok (record { preferences = records; target = t
 -- the records of preferences: where there are no preferences, there are none
 abbrev pub records_in : Option Found → Result (List Preference) Fault
 records_in None = Ok []
-records_in (Some found) = read_found (λ text. with_fault fault.Preferences (read_preferences text)) found
+records_in (Some preferences) = read_found (λ text. with_fault fault.Preferences (read_preferences text)) preferences
 
 -- what the preferences and the target release are read as
 abbrev pub preferences_of : Texts → Result Preferences Fault

@@ -41,7 +41,8 @@ pub trait OverRequest {
     ) -> Result<Self::Answer, Refusal>
         requires over { IsOver before.now requested.now.universe }
         ensures said { (texts : Texts)
-            → DenotesAsked texts requested.now.universe (start_of before.now) requested.now.asks_all_versions
+            → DenotesAsked texts requested.now.universe
+            (start_of before.now) requested.now.asks_all_versions
             → says self.now texts beside.old result beside.new }
         ensures kept { keeps self.now beside.old result beside.new }
         ensures known { IfErr result (λ refused. refused.fault ≢ fault.Read) };
@@ -75,7 +76,8 @@ fn one<'i, 'a, Q: OverRequest>(
     beside: &mut Q::Beside,
 ) -> Result<Q::Answer, Refusal>
     requires { IsListed before.now listing.now }
-    ensures said { (texts : Texts) → AreReadAs texts before.now → Q.says question.now (asking request.now texts) beside.old result beside.new }
+    ensures said { (texts : Texts) → AreReadAs texts before.now
+        → Q.says question.now (asking request.now texts) beside.old result beside.new }
     ensures kept { Q.keeps question.now beside.old result beside.new }
     ensures known { IfErr result (λ refused. refused.fault ≢ fault.Read) }
 {
@@ -94,7 +96,8 @@ fn all<'i, 'a, Q: OverRequest>(
 ) -> Result<Vec<Result<Q::Answer, Refusal>>, AllocError>
     requires { IsListed before.now listing.now }
     ensures said { (texts : Texts) → AreReadAs texts before.now → IfOk result (λ results.
-        AreSaid (λ request. Q.says question.now (asking request texts)) (map (λ r. r.now) requests.now) beside.old results.items beside.new) }
+        AreSaid (λ request. Q.says question.now (asking request texts))
+        (map (λ r. r.now) requests.now) beside.old results.items beside.new) }
     ensures kept { Comes (Q.keeps question.now) beside.old beside.new }
 {
     let mut results = Vec::new(alloc);

@@ -26,10 +26,14 @@ fn read_index<S: Shelf>(
     source: &IndexSource<'_>,
     before: usize,
 ) -> Result<KeptIndex, Refusal>
-    ensures ok { (at : Shelved) → S.found shelf.old ≡ Some at
-        → IfOk result (λ kept. index_of arch.now at.index number before source.now ≡ Ok (with_keys source.now.release kept)) }
-    ensures refused { (at : Shelved) → S.found shelf.old ≡ Some at
-        → IfErr result (λ refused. IsRefusedIndex number (index_of arch.now at.index number before source.now) refused) }
+    ensures ok { (at : Shelved) → S.known_texts shelf.old ≡ Some at
+        → IfOk result
+        (λ kept. index_of arch.now at.index number before source.now
+        ≡ Ok (with_keys source.now.release kept)) }
+    ensures refused { (at : Shelved) → S.known_texts shelf.old ≡ Some at
+        → IfErr result
+        (λ refused. IsRefusedIndex number
+        (index_of arch.now at.index number before source.now) refused) }
     ensures read { IsReadBy S.Shelf shelf.old result shelf.new }
 {
     let mut text = open_index(alloc, shelf, number, source.file())?;
@@ -53,10 +57,12 @@ fn read_each<S: Shelf>(
     arch: &[u8],
     sources: Vec<IndexSource<'_>>,
 ) -> Result<(Vec<KeptIndex>, Vec<Release>), Refusal>
-    ensures ok { (at : Shelved) → S.found shelf.old ≡ Some at → IfOk result (λ listed.
-        Spec.read_indices arch.now at.index sources.entry.items ≡ Ok (released listed.1.items listed.0.items)) }
-    ensures refused { (at : Shelved) → S.found shelf.old ≡ Some at → IfErr result (λ refused.
-        (refused ≡ out_of_memory) ⊎ (Spec.read_indices arch.now at.index sources.entry.items ≡ Err refused)) }
+    ensures ok { (at : Shelved) → S.known_texts shelf.old ≡ Some at → IfOk result (λ listed.
+        Spec.read_indices arch.now at.index sources.entry.items
+        ≡ Ok (released listed.1.items listed.0.items)) }
+    ensures refused { (at : Shelved) → S.known_texts shelf.old ≡ Some at → IfErr result (λ refused.
+        (refused ≡ out_of_memory)
+        ⊎ (Spec.read_indices arch.now at.index sources.entry.items ≡ Err refused)) }
     ensures count { IfOk result (λ listed. length listed.0.items ≡ length listed.1.items) }
     ensures read { IsReadBy S.Shelf shelf.old result shelf.new }
 {
@@ -86,10 +92,15 @@ pub fn read_indices<S: Shelf>(
     settings: &Settings<'_>,
     sources: Vec<IndexSource<'_>>,
 ) -> Result<(Vec<KeptIndex>, Vec<Release>), Refusal>
-    ensures ok { (at : Shelved) → S.found shelf.old ≡ Some at → sources_of (texts_of settings.now at) ≡ Ok sources.entry.items
-        → IfOk result (λ listed. HasIndices (texts_of settings.now at) (released listed.1.items listed.0.items)) }
-    ensures refused { (at : Shelved) → S.found shelf.old ≡ Some at → sources_of (texts_of settings.now at) ≡ Ok sources.entry.items
-        → HasStatus (texts_of settings.now at) → IfErr result (λ refused. IsRefusalBefore (texts_of settings.now at) refused) }
+    ensures ok { (at : Shelved) → S.known_texts shelf.old ≡ Some at
+        → sources_of (texts_of settings.now at) ≡ Ok sources.entry.items
+        → IfOk result
+        (λ listed. HasIndices (texts_of settings.now at)
+        (released listed.1.items listed.0.items)) }
+    ensures refused { (at : Shelved) → S.known_texts shelf.old ≡ Some at
+        → sources_of (texts_of settings.now at) ≡ Ok sources.entry.items
+        → HasStatus (texts_of settings.now at)
+        → IfErr result (λ refused. IsRefusalBefore (texts_of settings.now at) refused) }
     ensures count { IfOk result (λ listed. length listed.0.items ≡ length listed.1.items) }
     ensures read { IsReadBy S.Shelf shelf.old result shelf.new }
 {
@@ -106,9 +117,12 @@ pub fn read_listed<S: Shelf>(
     shelf: &mut S,
     settings: &Settings<'_>,
 ) -> Result<(Vec<KeptIndex>, Vec<Release>), Refusal>
-    ensures ok { (at : Shelved) → S.found shelf.old ≡ Some at
-        → IfOk result (λ listed. HasIndices (texts_of settings.now at) (released listed.1.items listed.0.items)) }
-    ensures refused { (at : Shelved) → S.found shelf.old ≡ Some at → HasStatus (texts_of settings.now at)
+    ensures ok { (at : Shelved) → S.known_texts shelf.old ≡ Some at
+        → IfOk result
+        (λ listed. HasIndices (texts_of settings.now at)
+        (released listed.1.items listed.0.items)) }
+    ensures refused { (at : Shelved) → S.known_texts shelf.old ≡ Some at
+        → HasStatus (texts_of settings.now at)
         → IfErr result (λ refused. IsRefusalBefore (texts_of settings.now at) refused) }
     ensures count { IfOk result (λ listed. length listed.0.items ≡ length listed.1.items) }
     ensures read { IsReadBy S.Shelf shelf.old result shelf.new }

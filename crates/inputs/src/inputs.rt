@@ -6,7 +6,7 @@ ghost use Rattle.inputs.specs.Counting.{one_more};
 ghost use Rattle.inputs.specs.Inputs.{shelved};
 ghost use Rattle.inputs.specs.declared.shelf.ReadError.TheVariants as ReadError;
 
-use crate::shelf::{Part, Progress, ReadError, Shelf};
+use crate::shelf::{Progress, ReadError, Shelf, WholeText};
 use stanza::Source;
 use std::alloc::{AllocError, Global};
 
@@ -59,7 +59,7 @@ impl<'p, 'a> MemoryShelf<'p, 'a> {
 }
 
 // The bytes, copied.
-fn copied(alloc: Global, bytes: &[u8]) -> Result<Vec<u8>, ReadError>
+fn copy_of(alloc: Global, bytes: &[u8]) -> Result<Vec<u8>, ReadError>
     ensures ok { IfOk result (λ text. text.items ≡ bytes.now) }
     ensures err { IfErr result (λ e. e ≡ ReadError.OutOfMemory) }
 {
@@ -83,7 +83,7 @@ fn text_at<'a>(texts: &[&'a [u8]], at: usize) -> Option<&'a [u8]>
 impl<'p, 'a> Shelf for MemoryShelf<'p, 'a> {
     type Text = &'a [u8];
 
-    ghost found = { λ shelf. Some (shelved shelf.inputs (option_copied shelf.judged)) };
+    ghost known_texts = { λ shelf. Some (shelved shelf.inputs (option_copied shelf.judged)) };
 
     ghost faults = { λ shelf. shelf.failures };
 
@@ -91,14 +91,14 @@ impl<'p, 'a> Shelf for MemoryShelf<'p, 'a> {
         self.failures
     }
 
-    fn read(&mut self, alloc: Global, part: Part) -> Result<Vec<u8>, ReadError> {
+    fn read(&mut self, alloc: Global, part: WholeText) -> Result<Vec<u8>, ReadError> {
         let inputs = &self.inputs;
         match part {
-            Part::Status => copied(alloc, inputs.status),
-            Part::Sources => copied(alloc, inputs.sources),
-            Part::Request => copied(alloc, inputs.request),
-            Part::Judged => match self.judged {
-                Some(judged) => copied(alloc, judged),
+            WholeText::Status => copy_of(alloc, inputs.status),
+            WholeText::Sources => copy_of(alloc, inputs.sources),
+            WholeText::Request => copy_of(alloc, inputs.request),
+            WholeText::Judged => match self.judged {
+                Some(judged) => copy_of(alloc, judged),
                 None => Err(self.missing()),
             },
         }
@@ -107,7 +107,7 @@ impl<'p, 'a> Shelf for MemoryShelf<'p, 'a> {
     fn read_preferences(&mut self, alloc: Global) -> Result<Option<Vec<u8>>, ReadError> {
         match self.inputs.preferences {
             None => Ok(None),
-            Some(text) => Ok(Some(copied(alloc, text)?)),
+            Some(text) => Ok(Some(copy_of(alloc, text)?)),
         }
     }
 

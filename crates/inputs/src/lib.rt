@@ -29,7 +29,7 @@ pub use question::{Question, ask, ask_bytes};
 pub use refusal::{Fault, Input, Refusal, refused_at};
 pub use request::{Requested, listed_in, read_requested, requested_in};
 pub use settings::Settings;
-pub use shelf::{Part, Progress, ReadError, Shelf};
+pub use shelf::{Progress, ReadError, Shelf, WholeText};
 pub use sources::{read_sources, read_sources_text};
 pub use stanza::{ReadFailed, Source};
 pub use status_file::{StatusText, read_status, read_status_file};

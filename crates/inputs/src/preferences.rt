@@ -17,8 +17,12 @@ use pins::{Prefs, PrefsError};
 use std::alloc::{AllocError, Global};
 
 fn prefs_in(alloc: Global, text: &[u8], target: Option<&[u8]>) -> Result<Prefs, Fault>
-    ensures ok { IfOk result (λ prefs. with_target (option_copied target.entry) (records_in (Some (Some text.now))) ≡ Ok prefs) }
-    ensures err { IfErr result (λ f. IsFaultOf (with_target (option_copied target.entry) (records_in (Some (Some text.now)))) f) }
+    ensures ok { IfOk result
+        (λ prefs. with_target (option_copied target.entry) (records_in (Some (Some text.now)))
+        ≡ Ok prefs) }
+    ensures err { IfErr result
+        (λ f. IsFaultOf
+        (with_target (option_copied target.entry) (records_in (Some (Some text.now)))) f) }
     ensures known { IfErr result (λ f. f ≢ fault.Read) }
 {
     match Prefs::read(alloc, text, target) {
@@ -29,8 +33,10 @@ fn prefs_in(alloc: Global, text: &[u8], target: Option<&[u8]>) -> Result<Prefs, 
 }
 
 fn prefs_without_records(alloc: Global, target: Option<&[u8]>) -> Result<Prefs, Fault>
-    ensures ok { IfOk result (λ prefs. with_target (option_copied target.entry) (records_in None) ≡ Ok prefs) }
-    ensures err { IfErr result (λ f. IsFaultOf (with_target (option_copied target.entry) (records_in None)) f) }
+    ensures ok { IfOk result
+        (λ prefs. with_target (option_copied target.entry) (records_in None) ≡ Ok prefs) }
+    ensures err { IfErr result
+        (λ f. IsFaultOf (with_target (option_copied target.entry) (records_in None)) f) }
     ensures known { IfErr result (λ f. f ≢ fault.Read) }
 {
     match Prefs::without_records(alloc, target) {
@@ -42,9 +48,11 @@ fn prefs_without_records(alloc: Global, target: Option<&[u8]>) -> Result<Prefs, 
 // What the administrator prefers, by the text of the preferences, if there is one.
 fn prefs_of(alloc: Global, text: &Option<Vec<u8>>, target: Option<&[u8]>) -> Result<Prefs, Fault>
     ensures ok { IfOk result (λ prefs.
-        with_target (option_copied target.entry) (records_in (option_map (λ text. Some text.items) text.now)) ≡ Ok prefs) }
+        with_target (option_copied target.entry)
+        (records_in (option_map (λ text. Some text.items) text.now)) ≡ Ok prefs) }
     ensures err { IfErr result (λ f.
-        IsFaultOf (with_target (option_copied target.entry) (records_in (option_map (λ text. Some text.items) text.now))) f) }
+        IsFaultOf (with_target (option_copied target.entry)
+        (records_in (option_map (λ text. Some text.items) text.now))) f) }
     ensures known { IfErr result (λ f. f ≢ fault.Read) }
 {
     match text {
@@ -60,10 +68,12 @@ pub fn read_preferences<S: Shelf>(
     shelf: &mut S,
     settings: &Settings<'_>,
 ) -> Result<Prefs, Refusal>
-    ensures ok { (at : Shelved) (start : List Record) (indices : List IndexValue) → S.found shelf.old ≡ Some at
+    ensures ok { (at : Shelved) (start : List Record) (indices : List IndexValue)
+        → S.known_texts shelf.old ≡ Some at
         → AreListed (texts_of settings.now at) start indices
         → IfOk result (λ prefs. AreRead (texts_of settings.now at) start indices prefs) }
-    ensures refused { (at : Shelved) (start : List Record) (indices : List IndexValue) → S.found shelf.old ≡ Some at
+    ensures refused { (at : Shelved) (start : List Record) (indices : List IndexValue)
+        → S.known_texts shelf.old ≡ Some at
         → AreListed (texts_of settings.now at) start indices
         → IfErr result (λ refused. IsRefusalBefore (texts_of settings.now at) refused) }
     ensures read { IsReadBy S.Shelf shelf.old result shelf.new }

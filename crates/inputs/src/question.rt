@@ -47,8 +47,10 @@ pub trait Question {
         before: &Before<'_, '_, '_, '_, '_, '_, '_, '_>,
         beside: &mut Self::Beside,
     ) -> Result<Self::Answer, Refusal>
-        ensures said { (at : Shelved) → S.found shelf.old ≡ Some at → AreReadAs (texts_of before.now.settings.now at) before.now
-            → says self.now (texts_of before.now.settings.now at) at.judged beside.old result beside.new }
+        ensures said { (at : Shelved) → S.known_texts shelf.old ≡ Some at
+            → AreReadAs (texts_of before.now.settings.now at) before.now
+            → says self.now
+            (texts_of before.now.settings.now at) at.judged beside.old result beside.new }
         ensures kept { keeps self.now before.now.settings.now beside.old result beside.new }
         ensures read { IsReadBy S.Shelf shelf.old result shelf.new };
 
@@ -74,7 +76,8 @@ fn ask_by<'k, 'a: 'k, S: Shelf, Q: Question>(
     beside: &mut Q::Beside,
 ) -> Result<Q::Answer, Refusal>
     requires { length kept.now ≡ length releases.items }
-    ensures said { (at : Shelved) → S.found shelf.old ≡ Some at → HasStart (texts_of settings.now at) (slot_records status_file.now.slots)
+    ensures said { (at : Shelved) → S.known_texts shelf.old ≡ Some at
+        → HasStart (texts_of settings.now at) (slot_records status_file.now.slots)
         → status_file_of (texts_of settings.now at) ≡ Ok status_file.now.slots
         → AreNamed (texts_of settings.now at) (map (λ file. file.now) files.now)
         → HasIndices (texts_of settings.now at) (released releases.items kept.now)
@@ -105,7 +108,7 @@ pub fn ask<S: Shelf, Q: Question>(
     question: &Q,
     beside: &mut Q::Beside,
 ) -> Result<Q::Answer, Refusal>
-    ensures said { (at : Shelved) → S.found shelf.old ≡ Some at
+    ensures said { (at : Shelved) → S.known_texts shelf.old ≡ Some at
         → Q.says question.now (texts_of settings.now at) at.judged beside.old result beside.new }
     ensures kept { Q.keeps question.now settings.now beside.old result beside.new }
     ensures read { IsReadBy S.Shelf shelf.old result shelf.new }
@@ -138,7 +141,9 @@ pub fn ask_bytes<Q: Question>(
     question: &Q,
     beside: &mut Q::Beside,
 ) -> Result<Q::Answer, Refusal>
-    ensures said { Q.says question.now (texts_of settings.now (shelved inputs.now (option_copied judged.entry))) (option_copied judged.entry)
+    ensures said { Q.says question.now
+        (texts_of settings.now (shelved inputs.now (option_copied judged.entry)))
+        (option_copied judged.entry)
         beside.old result beside.new }
     ensures kept { Q.keeps question.now settings.now beside.old result beside.new }
 {

@@ -19,7 +19,7 @@ ghost use Rattle.inputs.specs.declared.refusal.Fault.TheVariants as fault;
 
 use crate::before::Before;
 use crate::refusal::{Fault, Input, Refusal, refused_at};
-use crate::shelf::{Part, Shelf};
+use crate::shelf::{Shelf, WholeText};
 use crate::texts::read_part;
 use index::Index;
 use pins::Prefs;
@@ -41,8 +41,10 @@ pub struct Requested<'p, 'a> {
 
 // What the text of a request is read as.
 fn request_in(alloc: Global, text: &[u8], arch: &[u8]) -> Result<Request, Fault>
-    ensures ok { IfOk result (λ request. with_fault fault.Request (Read.read_request arch.now text.now) ≡ Ok request) }
-    ensures err { IfErr result (λ f. IsFaultOf (with_fault fault.Request (Read.read_request arch.now text.now)) f) }
+    ensures ok { IfOk result
+        (λ request. with_fault fault.Request (Read.read_request arch.now text.now) ≡ Ok request) }
+    ensures err { IfErr result
+        (λ f. IsFaultOf (with_fault fault.Request (Read.read_request arch.now text.now)) f) }
     ensures known { IfErr result (λ f. f ≢ fault.Read) }
 {
     match Request::read(alloc, text, arch) {
@@ -65,9 +67,11 @@ fn lent_or_built<'p, 'a>(
     requires listed { IfSome (option_copied listing)
         (IsListing (records_of (map (λ r. r.now) start.now)) (indices_of indices.now) prefs.now) }
     ensures ok { IfOk result (λ u.
-        IsBuilt (records_of (map (λ r. r.now) start.now)) (indices_of indices.now) prefs.now request.goals request.asks_all_versions u) }
+        IsBuilt (records_of (map (λ r. r.now) start.now))
+        (indices_of indices.now) prefs.now request.goals request.asks_all_versions u) }
     ensures err { IfErr result (λ e.
-        IsUniverseFault (records_of (map (λ r. r.now) start.now)) (indices_of indices.now) prefs.now request.goals request.asks_all_versions e) }
+        IsUniverseFault (records_of (map (λ r. r.now) start.now))
+        (indices_of indices.now) prefs.now request.goals request.asks_all_versions e) }
 {
     let asks_all_versions = request.asks_all_versions();
     if let Some(listing) = listing {
@@ -86,7 +90,7 @@ fn lent_or_built<'p, 'a>(
 }
 
 // Builds the universe of the request.
-fn built<'p, 'a>(
+fn build_universe<'p, 'a>(
     alloc: Global,
     start: &[&StatusRecord<'a>],
     indices: &'p [Index<'a>],
@@ -98,9 +102,11 @@ fn built<'p, 'a>(
     requires listed { IfSome (option_copied listing)
         (IsListing (records_of (map (λ r. r.now) start.now)) (indices_of indices.now) prefs.now) }
     ensures ok { IfOk result (λ u.
-        IsBuilt (records_of (map (λ r. r.now) start.now)) (indices_of indices.now) prefs.now request.goals request.asks_all_versions u) }
+        IsBuilt (records_of (map (λ r. r.now) start.now))
+        (indices_of indices.now) prefs.now request.goals request.asks_all_versions u) }
     ensures err { IfErr result (λ f. OrMemory
-        (IsBuildFault (records_of (map (λ r. r.now) start.now)) (indices_of indices.now) prefs.now request) f) }
+        (IsBuildFault (records_of (map (λ r. r.now) start.now))
+        (indices_of indices.now) prefs.now request) f) }
     ensures known { IfErr result (λ f. f ≢ fault.Read) }
 {
     match lent_or_built(alloc, start, indices, prefs, listing, request) {
@@ -124,16 +130,18 @@ fn universe_in<'p, 'a>(
     requires distinct { HasDistinctNames (records_of (map (λ r. r.now) start.now)) }
     requires listed { IfSome (option_copied listing)
         (IsListing (records_of (map (λ r. r.now) start.now)) (indices_of indices.now) prefs.now) }
-    ensures ok { IfOk result (λ found. (asked : Read.ReadRequest)
-        × IsRequested arch.now (Some text.now) (records_of (map (λ r. r.now) start.now)) (indices_of indices.now) prefs.now asked found.universe
-        × (found.asks_all_versions ≡ asked.asks_all_versions)) }
+    ensures ok { IfOk result (λ requested. (asked : Read.ReadRequest)
+        × IsRequested arch.now (Some text.now) (records_of (map (λ r. r.now) start.now))
+        (indices_of indices.now) prefs.now asked requested.universe
+        × (requested.asks_all_versions ≡ asked.asks_all_versions)) }
     ensures err { IfErr result (λ f. OrMemory
-        (IsRequestFault arch.now (Some text.now) (records_of (map (λ r. r.now) start.now)) (indices_of indices.now) prefs.now) f) }
+        (IsRequestFault arch.now (Some text.now) (records_of (map (λ r. r.now) start.now))
+        (indices_of indices.now) prefs.now) f) }
     ensures known { IfErr result (λ f. f ≢ fault.Read) }
 {
     let request = request_in(alloc, text, arch)?;
     let asks_all_versions = request.asks_all_versions();
-    let universe = built(alloc, start, indices, prefs, listing, request)?;
+    let universe = build_universe(alloc, start, indices, prefs, listing, request)?;
     Ok(Requested {
         universe,
         asks_all_versions,
@@ -179,7 +187,8 @@ pub fn requested_in<'i, 'a>(
 ) -> Result<Requested<'i, 'a>, Refusal>
     requires listed { IfSome (option_copied listing) (IsListed before.now) }
     ensures asked { (texts : Texts) → AreReadAs texts before.now → IfOk result (λ requested.
-        DenotesAsked (asking text.now texts) requested.universe (start_of before.now) requested.asks_all_versions) }
+        DenotesAsked (asking text.now texts) requested.universe
+        (start_of before.now) requested.asks_all_versions) }
     ensures over { IfOk result (λ requested. IsOver before.now requested.universe) }
     ensures refused { (texts : Texts) → AreReadAs texts before.now
         → IfErr result (λ refused. IsRefusal (asking text.now texts) refused) }
@@ -209,14 +218,17 @@ pub fn read_requested<'i, 'a, S: Shelf>(
     shelf: &mut S,
     before: &Before<'_, '_, '_, '_, '_, '_, 'i, 'a>,
 ) -> Result<Requested<'i, 'a>, Refusal>
-    ensures asked { (at : Shelved) → S.found shelf.old ≡ Some at → AreReadAs (texts_of before.now.settings.now at) before.now
+    ensures asked { (at : Shelved) → S.known_texts shelf.old ≡ Some at
+        → AreReadAs (texts_of before.now.settings.now at) before.now
         → IfOk result (λ requested.
-        DenotesAsked (texts_of before.now.settings.now at) requested.universe (start_of before.now) requested.asks_all_versions) }
+        DenotesAsked (texts_of before.now.settings.now at) requested.universe
+        (start_of before.now) requested.asks_all_versions) }
     ensures over { IfOk result (λ requested. IsOver before.now requested.universe) }
-    ensures refused { (at : Shelved) → S.found shelf.old ≡ Some at → AreReadAs (texts_of before.now.settings.now at) before.now
+    ensures refused { (at : Shelved) → S.known_texts shelf.old ≡ Some at
+        → AreReadAs (texts_of before.now.settings.now at) before.now
         → IfErr result (λ refused. IsRefusal (texts_of before.now.settings.now at) refused) }
     ensures read { IsReadBy S.Shelf shelf.old result shelf.new }
 {
-    let text = read_part(alloc, shelf, Part::Request, Input::Request)?;
+    let text = read_part(alloc, shelf, WholeText::Request, Input::Request)?;
     requested_in(alloc, before, None, text.as_slice())
 }

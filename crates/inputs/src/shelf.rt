@@ -9,7 +9,7 @@ use std::alloc::Global;
 
 /// A text that is read whole.
 #[derive(Clone, Copy, Debug, PartialEq, Eq)]
-pub enum Part {
+pub enum WholeText {
     /// The status file.
     Status,
     /// The sources.
@@ -58,7 +58,7 @@ pub trait Shelf {
     type Text: Source + Drop;
 
     // What is found, where it is known.
-    ghost found: { Self → Option Shelved } = { λ _. None };
+    ghost known_texts: { Self → Option Shelved } = { λ _. None };
 
     // How many texts couldn't be read.
     ghost faults: { Self → ℕ };
@@ -71,44 +71,47 @@ pub trait Shelf {
         ensures { result ≡ faults self.now };
 
     /// All bytes of this text. Of one that is longer than a text may be it need be no more than shows that.
-    fn read(&mut self, alloc: Global, part: Part) -> Result<Vec<u8>, ReadError>
-        ensures text { (at : Shelved) → found self.old ≡ Some at → IfOk result (λ text. part_of at part ≡ Some text.items) }
-        ensures missing { (at : Shelved) → found self.old ≡ Some at
+    fn read(&mut self, alloc: Global, part: WholeText) -> Result<Vec<u8>, ReadError>
+        ensures text { (at : Shelved) → known_texts self.old ≡ Some at
+            → IfOk result (λ text. part_of at part ≡ Some text.items) }
+        ensures missing { (at : Shelved) → known_texts self.old ≡ Some at
             → IfErr result (λ e. e ≡ ReadError.Unreadable → part_of at part ≡ None) }
-        ensures same { found self.new ≡ found self.old }
+        ensures same { known_texts self.new ≡ known_texts self.old }
         ensures count { Counts result (faults self.old) (faults self.new) }
         ensures held { holds self.old self.new };
 
     /// All bytes of the preferences, or nothing where none are asked for.
     fn read_preferences(&mut self, alloc: Global) -> Result<Option<Vec<u8>>, ReadError>
-        ensures text { (at : Shelved) → found self.old ≡ Some at
+        ensures text { (at : Shelved) → known_texts self.old ≡ Some at
             → IfOk result (λ text. at.preferences ≡ option_map (λ text. Some text.items) text) }
-        ensures missing { (at : Shelved) → found self.old ≡ Some at
+        ensures missing { (at : Shelved) → known_texts self.old ≡ Some at
             → IfErr result (λ e. e ≡ ReadError.Unreadable → at.preferences ≡ Some None) }
-        ensures same { found self.new ≡ found self.old }
+        ensures same { known_texts self.new ≡ known_texts self.old }
         ensures count { Counts result (faults self.old) (faults self.new) }
         ensures held { holds self.old self.new };
 
     /// Opens the text of the index of this number, counted from 1, whose source names this file.
     fn open(&mut self, alloc: Global, number: usize, file: &[u8]) -> Result<Self::Text, ReadError>
-        ensures text { (at : Shelved) → found self.old ≡ Some at → IfOk result (λ text.
-            (bytes : List ℕ) × (at.index number file.now ≡ Some bytes) × (Self.Text.left text ≡ Some bytes)) }
-        ensures missing { (at : Shelved) → found self.old ≡ Some at
+        ensures text { (at : Shelved) → known_texts self.old ≡ Some at → IfOk result (λ text.
+            (bytes : List ℕ) × (at.index number file.now ≡ Some bytes)
+            × (Self.Text.left text ≡ Some bytes)) }
+        ensures missing { (at : Shelved) → known_texts self.old ≡ Some at
             → IfErr result (λ e. e ≡ ReadError.Unreadable → at.index number file.now ≡ None) }
         ensures fresh { IfOk result (λ text. Self.Text.faults text ≡ 0) }
-        ensures same { found self.new ≡ found self.old }
+        ensures same { known_texts self.new ≡ known_texts self.old }
         ensures count { Counts result (faults self.old) (faults self.new) }
         ensures held { holds self.old self.new };
 
     /// Gives back a text of an index: what couldn't be read of it is counted.
     fn close(&mut self, text: Self::Text)
-        ensures same { found self.new ≡ found self.old }
-        ensures count { faults self.new ≡ min (faults self.old + Self.Text.faults text) (2 ^ 64 - 1) }
+        ensures same { known_texts self.new ≡ known_texts self.old }
+        ensures count { faults self.new
+            ≡ min (faults self.old + Self.Text.faults text) (2 ^ 64 - 1) }
         ensures held { holds self.old self.new };
 
     /// Shows a person how far an answer is, where one looks on. Nothing is promised of what is shown.
     fn show(&mut self, progress: Progress)
-        ensures same { found self.new ≡ found self.old }
+        ensures same { known_texts self.new ≡ known_texts self.old }
         ensures count { faults self.new ≡ faults self.old }
         ensures held { holds self.old self.new };
 

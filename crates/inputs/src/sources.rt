@@ -9,7 +9,7 @@ ghost use Rattle.inputs.specs.declared.refusal.Fault.TheVariants as fault;
 ghost use Rattle.inputs.specs.declared.settings.Settings.{Settings as SettingsOf};
 
 use crate::refusal::{Fault, Input, Refusal, refused_at};
-use crate::shelf::{Part, Shelf};
+use crate::shelf::{Shelf, WholeText};
 use crate::texts::read_part;
 use index::{IndexSource, SourcesError};
 use std::alloc::{AllocError, Global};
@@ -29,12 +29,14 @@ fn sources_in_text<'a>(alloc: Global, text: &'a [u8]) -> Result<Vec<IndexSource<
 
 /// The text of the sources.
 pub fn read_sources_text<S: Shelf>(alloc: Global, shelf: &mut S) -> Result<Vec<u8>, Refusal>
-    ensures text { (at : Shelved) → S.found shelf.old ≡ Some at → IfOk result (λ text. at.sources ≡ Some text.items) }
-    ensures refused { (at : Shelved) (settings : SettingsOf) → S.found shelf.old ≡ Some at → HasStatus (texts_of settings at)
+    ensures text { (at : Shelved) → S.known_texts shelf.old ≡ Some at
+        → IfOk result (λ text. at.sources ≡ Some text.items) }
+    ensures refused { (at : Shelved) (settings : SettingsOf) → S.known_texts shelf.old ≡ Some at
+        → HasStatus (texts_of settings at)
         → IfErr result (λ refused. IsRefusalBefore (texts_of settings at) refused) }
     ensures read { IsReadBy S.Shelf shelf.old result shelf.new }
 {
-    match read_part(alloc, shelf, Part::Sources, Input::Sources) {
+    match read_part(alloc, shelf, WholeText::Sources, Input::Sources) {
         Ok(text) => Ok(text),
         Err(refused) => Err(refused),
     }
@@ -58,7 +60,8 @@ pub(crate) fn files_of<'a>(
 pub fn read_sources<'a>(alloc: Global, text: &'a [u8]) -> Result<Vec<IndexSource<'a>>, Refusal>
     ensures ok { (at : Shelved) (settings : SettingsOf) → at.sources ≡ Some text.now
         → IfOk result (λ sources. sources_of (texts_of settings at) ≡ Ok sources.items) }
-    ensures refused { (at : Shelved) (settings : SettingsOf) → at.sources ≡ Some text.now → HasStatus (texts_of settings at)
+    ensures refused { (at : Shelved) (settings : SettingsOf) → at.sources ≡ Some text.now
+        → HasStatus (texts_of settings at)
         → IfErr result (λ refused. IsRefusalBefore (texts_of settings at) refused) }
     ensures known { IfErr result (λ refused. refused.fault ≢ fault.Read) }
 {

@@ -10,16 +10,16 @@ ghost use Rattle.inputs.specs.declared.refusal.Fault.TheVariants as fault;
 
 use crate::refusal::{Fault, Input, Refusal, refused_at};
 use crate::settings::Settings;
-use crate::shelf::{Part, Shelf};
-use crate::status_refusal::owned;
+use crate::shelf::{Shelf, WholeText};
+use crate::status_refusal::owned_refusal;
 use crate::texts::read_part;
 use status_text::{StatusError, StatusFault, StatusFile};
 use std::alloc::{AllocError, Global};
 
 fn fault_of(alloc: Global, refused: &StatusFault<'_>) -> Fault
-    ensures { OrMemory (λ found. found ≡ fault.Status (status_refusal refused.now)) result }
+    ensures { OrMemory (λ reason. reason ≡ fault.Status (status_refusal refused.now)) result }
 {
-    match owned(alloc, refused) {
+    match owned_refusal(alloc, refused) {
         Ok(refused) => Fault::Status(refused),
         Err(AllocError) => Fault::OutOfMemory,
     }
@@ -51,12 +51,13 @@ pub fn read_status<S: Shelf>(
     shelf: &mut S,
     settings: &Settings<'_>,
 ) -> Result<StatusText, Refusal>
-    ensures text { (at : Shelved) → S.found shelf.old ≡ Some at → IfOk result (λ status. IsStatusText (texts_of settings.now at) status) }
-    ensures refused { (at : Shelved) → S.found shelf.old ≡ Some at
+    ensures text { (at : Shelved) → S.known_texts shelf.old ≡ Some at
+        → IfOk result (λ status. IsStatusText (texts_of settings.now at) status) }
+    ensures refused { (at : Shelved) → S.known_texts shelf.old ≡ Some at
         → IfErr result (λ refused. IsRefusalBefore (texts_of settings.now at) refused) }
     ensures read { IsReadBy S.Shelf shelf.old result shelf.new }
 {
-    match read_part(alloc, shelf, Part::Status, Input::Status) {
+    match read_part(alloc, shelf, WholeText::Status, Input::Status) {
         Ok(text) => Ok(StatusText {
             text,
             arch: settings.arch.to_vec(alloc)?,
@@ -70,9 +71,12 @@ pub fn read_status_file<'a>(
     alloc: Global,
     status: &'a StatusText,
 ) -> Result<StatusFile<'a>, Refusal>
-    ensures ok { (texts : Texts) → IsStatusText texts status.now → IfOk result (λ file. HasStart texts (slot_records file.slots)) }
-    ensures slots { (texts : Texts) → IsStatusText texts status.now → IfOk result (λ file. status_file_of texts ≡ Ok file.slots) }
-    ensures refused { (texts : Texts) → IsStatusText texts status.now → IfErr result (λ refused. IsRefusalBefore texts refused) }
+    ensures ok { (texts : Texts) → IsStatusText texts status.now
+        → IfOk result (λ file. HasStart texts (slot_records file.slots)) }
+    ensures slots { (texts : Texts) → IsStatusText texts status.now
+        → IfOk result (λ file. status_file_of texts ≡ Ok file.slots) }
+    ensures refused { (texts : Texts) → IsStatusText texts status.now
+        → IfErr result (λ refused. IsRefusalBefore texts refused) }
     ensures known { IfErr result (λ refused. refused.fault ≢ fault.Read) }
 {
     match file_in(alloc, status.text.as_slice(), status.arch.as_slice()) {

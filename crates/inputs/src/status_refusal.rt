@@ -6,7 +6,7 @@ ghost use Rattle.inputs.specs.Texts.{status_refusal};
 use relation::PkgFault;
 use rules::Text;
 use stanza::StanzaError;
-use status_text::{PackageName, RequiredField, StatusFault};
+use status_text::{PackageName, StatusFault, StatusField};
 use std::alloc::{AllocError, Global};
 use std::fmt;
 use std::marker::Model;
@@ -65,7 +65,7 @@ pub enum StatusRefusal {
     Pkg(PkgFault),
     /// A required field isn't in the stanza that begins on this line.
     #[error("E9 MissingField {0} {1}")]
-    MissingField(usize, RequiredField),
+    MissingField(usize, StatusField),
     /// The value of Status on this line isn't three words of dpkg(1).
     #[error("E12 BadStatus {0}")]
     BadStatus(usize),
@@ -80,14 +80,17 @@ pub enum StatusRefusal {
     TooLarge,
 }
 
-fn named(alloc: Global, name: &PackageName<'_>) -> Result<NamedPackage, AllocError>
+fn named_package(alloc: Global, name: &PackageName<'_>) -> Result<NamedPackage, AllocError>
     ensures { IfOk result (λ named. named ≡ name.now) }
 {
     NamedPackage::copied_from(alloc, name.as_bytes())
 }
 
 /// The refusal with its own copy of the name, if it has one. Memory alone can fail.
-pub(crate) fn owned(alloc: Global, refused: &StatusFault<'_>) -> Result<StatusRefusal, AllocError>
+pub(crate) fn owned_refusal(
+    alloc: Global,
+    refused: &StatusFault<'_>,
+) -> Result<StatusRefusal, AllocError>
     ensures { IfOk result (λ owned. owned ≡ status_refusal refused.now) }
 {
     match refused {
@@ -96,10 +99,10 @@ pub(crate) fn owned(alloc: Global, refused: &StatusFault<'_>) -> Result<StatusRe
         StatusFault::MissingField(line, field) => Ok(StatusRefusal::MissingField(*line, *field)),
         StatusFault::BadStatus(line) => Ok(StatusRefusal::BadStatus(*line)),
         StatusFault::DuplicatePackage(name) => {
-            Ok(StatusRefusal::DuplicatePackage(named(alloc, name)?))
+            Ok(StatusRefusal::DuplicatePackage(named_package(alloc, name)?))
         }
         StatusFault::ForeignArchitecture(name) => {
-            Ok(StatusRefusal::ForeignArchitecture(named(alloc, name)?))
+            Ok(StatusRefusal::ForeignArchitecture(named_package(alloc, name)?))
         }
         StatusFault::TooLarge => Ok(StatusRefusal::TooLarge),
     }

@@ -7,7 +7,7 @@ ghost use Rattle.inputs.specs.Texts.{Shelved, part_of};
 ghost use Rattle.inputs.specs.declared.refusal.Input.TheVariants as place;
 
 use crate::refusal::{Fault, Input, Refusal};
-use crate::shelf::{Part, ReadError, Shelf};
+use crate::shelf::{ReadError, Shelf, WholeText};
 use std::alloc::{AllocError, Global};
 
 // The refusal of the text at this place, which wasn't read.
@@ -27,11 +27,12 @@ fn unread(place: Input, error: ReadError) -> Refusal
 pub fn read_part<S: Shelf>(
     alloc: Global,
     shelf: &mut S,
-    part: Part,
+    part: WholeText,
     place: Input,
 ) -> Result<Vec<u8>, Refusal>
-    ensures text { (at : Shelved) → S.found shelf.old ≡ Some at → IfOk result (λ text. part_of at part ≡ Some text.items) }
-    ensures missing { (at : Shelved) → S.found shelf.old ≡ Some at
+    ensures text { (at : Shelved) → S.known_texts shelf.old ≡ Some at
+        → IfOk result (λ text. part_of at part ≡ Some text.items) }
+    ensures missing { (at : Shelved) → S.known_texts shelf.old ≡ Some at
         → IfErr result (λ refused. IsUnread place (part_of at part) refused) }
     ensures read { IsReadBy S.Shelf shelf.old result shelf.new }
 {
@@ -46,9 +47,10 @@ pub(crate) fn read_preferences_text<S: Shelf>(
     alloc: Global,
     shelf: &mut S,
 ) -> Result<Option<Vec<u8>>, Refusal>
-    ensures text { (at : Shelved) → S.found shelf.old ≡ Some at
+    ensures text { (at : Shelved) → S.known_texts shelf.old ≡ Some at
         → IfOk result (λ text. at.preferences ≡ option_map (λ text. Some text.items) text) }
-    ensures missing { (at : Shelved) → S.found shelf.old ≡ Some at → IfErr result (λ refused. AreUnread at.preferences refused) }
+    ensures missing { (at : Shelved) → S.known_texts shelf.old ≡ Some at
+        → IfErr result (λ refused. AreUnread at.preferences refused) }
     ensures read { IsReadBy S.Shelf shelf.old result shelf.new }
 {
     match shelf.read_preferences(alloc) {
@@ -64,10 +66,12 @@ pub fn open_index<S: Shelf>(
     number: usize,
     file: &[u8],
 ) -> Result<S::Text, Refusal>
-    ensures text { (at : Shelved) → S.found shelf.old ≡ Some at → IfOk result (λ text.
-        (bytes : List ℕ) × (at.index number file.now ≡ Some bytes) × (S.Text.left text ≡ Some bytes)) }
-    ensures missing { (at : Shelved) → S.found shelf.old ≡ Some at
-        → IfErr result (λ refused. IsUnread (place.Index number) (at.index number file.now) refused) }
+    ensures text { (at : Shelved) → S.known_texts shelf.old ≡ Some at → IfOk result (λ text.
+        (bytes : List ℕ) × (at.index number file.now ≡ Some bytes)
+        × (S.Text.left text ≡ Some bytes)) }
+    ensures missing { (at : Shelved) → S.known_texts shelf.old ≡ Some at
+        → IfErr result
+        (λ refused. IsUnread (place.Index number) (at.index number file.now) refused) }
     ensures fresh { IfOk result (λ text. S.Text.faults text ≡ 0) }
     ensures read { IsReadBy S.Shelf shelf.old result shelf.new }
 {

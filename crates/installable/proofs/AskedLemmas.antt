@@ -8,13 +8,13 @@ use Rattle.rules.specs.Step.{IndexPackage}
 use Rattle.installable.specs.Asked.{is_asked}
 
 -- where there are names, those that have one of them are
-pub asked_named : (names : List (Bor (List ℕ))) (found : IndexPackage) (answer : Bool) → nat_eq (length names) 0 ≡ false
-    → answer ≡ list_any (λ (name : Bor (List ℕ)). bytes_eq name.now found.pkg.name) names
-    → answer ≡ is_asked (map (λ (name : Bor (List ℕ)). name.now) names) found
-asked_named names found answer some is =
+pub asked_named : (names : List (Bor (List ℕ))) (stanza : IndexPackage) (answer : Bool) → nat_eq (length names) 0 ≡ false
+    → answer ≡ list_any (λ (name : Bor (List ℕ)). bytes_eq name.now stanza.pkg.name) names
+    → answer ≡ is_asked (map (λ (name : Bor (List ℕ)). name.now) names) stanza
+asked_named names stanza answer some is =
     is
-    ∙ sym (list_any-map (λ (name : List ℕ). bytes_eq name found.pkg.name) (λ (name : Bor (List ℕ)). name.now) names)
-    ∙ sym (ap (λ (b : Bool). b || list_any (λ (name : List ℕ). bytes_eq name found.pkg.name) (map (λ (name : Bor (List ℕ)). name.now) names))
+    ∙ sym (list_any-map (λ (name : List ℕ). bytes_eq name stanza.pkg.name) (λ (name : Bor (List ℕ)). name.now) names)
+    ∙ sym (ap (λ (b : Bool). b || list_any (λ (name : List ℕ). bytes_eq name stanza.pkg.name) (map (λ (name : Bor (List ℕ)). name.now) names))
     (ap (λ (n : ℕ). nat_eq n 0) (length-map names (λ (name : Bor (List ℕ)). name.now)) ∙ some))
 
 -- one more pair at the ends of two lists

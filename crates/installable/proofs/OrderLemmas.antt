@@ -14,11 +14,11 @@ use Rattle.rules.specs.Available.{is_of}
 use Rattle.rules.specs.Step.{IndexPackage, no_relations}
 
 -- the order ties a stanza with just those of its name and version
-ties_is_of : (sought found : IndexPackage) → ties (λ x y. is_lt (listed_cmp x y)) sought found ≡ is_of sought.pkg.name sought.pkg.version found.pkg
-ties_is_of sought found =
-    ap (λ (o : Ordering). not (is_lt o) && not (is_lt (listed_cmp found sought))) (listed_cmp_total.antisymm sought found)
-    ∙ ties-eq (listed_cmp found sought)
-    ∙ listed_cmp-ties found sought
+ties_is_of : (sought stanza : IndexPackage) → ties (λ x y. is_lt (listed_cmp x y)) sought stanza ≡ is_of sought.pkg.name sought.pkg.version stanza.pkg
+ties_is_of sought stanza =
+    ap (λ (o : Ordering). not (is_lt o) && not (is_lt (listed_cmp stanza sought))) (listed_cmp_total.antisymm sought stanza)
+    ∙ ties-eq (listed_cmp stanza sought)
+    ∙ listed_cmp-ties stanza sought
 
 pub ordered_from_sort : (listed sorted ordered : List IndexPackage) → IsSorted listed_cmp sorted → IsStable listed_cmp listed sorted
     → ordered ≡ dedup (eq_by_cmp listed_cmp) sorted → IsOrdered listed ordered
@@ -26,7 +26,7 @@ ordered_from_sort listed sorted ordered up stable same = subst (IsOrdered listed
   ascending = IsStrictlySortedBy-dedup listed_cmp_total (λ x y. refl) sorted up;
   earliest = λ name version.
       let sought : IndexPackage = bare (record { name = name; version = version; relations = no_relations }) in
-      let p : IndexPackage → Bool = λ found. is_of name version found.pkg in
+      let p : IndexPackage → Bool = λ stanza. is_of name version stanza.pkg in
       let t : IndexPackage → Bool = ties (λ x y. is_lt (listed_cmp x y)) sought in
       find-dedup (eq_by_cmp listed_cmp) p (λ x k tied. is_of-alike name version x k tied) sorted
       ∙ find-filter p sorted

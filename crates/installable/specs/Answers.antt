@@ -7,7 +7,7 @@ use Rattle.inputs.specs.ReadAs.{asking}
 use Rattle.inputs.specs.Refused.{IsRefusal}
 use Rattle.inputs.specs.Texts.{Texts}
 use Rattle.inputs.specs.declared.refusal.Refusal.{Refusal}
-use Rattle.part.specs.Premises.{LeavesChoice}
+use Rattle.closed_part.specs.Premises.{LeavesChoice}
 use Rattle.refutation.specs.declared.line.Line.{Line}
 use Rattle.rules.specs.Available.{Index}
 use Rattle.rules.specs.Database.{Record}
@@ -44,21 +44,21 @@ IsInstallability u limit answer.Unchecked = (lines : List Line) × ¬ IsShownBy 
 -- beside a refutation stands this request
 abbrev pub HasRequest : List ℕ → Installability → Type 0
 HasRequest request (answer.Broken refuted) = refuted.request ≡ request
-HasRequest request found = ⊤
+HasRequest request installability = ⊤
 
 -- the answer is true of the universe that the texts denote with this request in the place of theirs, which stands beside a refutation
-pub record IsAnsweredBy (texts : Texts) (request : List ℕ) (limit : ℕ) (found : Installability) : Type 0 where
+pub record IsAnsweredBy (texts : Texts) (request : List ℕ) (limit : ℕ) (installability : Installability) : Type 0 where
   pub universe : Universe
   pub start : List Record
   pub denoted : Denotes (asking request texts) universe start
-  pub holds : IsInstallability universe limit found
-  pub kept : HasRequest request found
+  pub holds : IsInstallability universe limit installability
+  pub kept : HasRequest request installability
 
 -- the answer is that of the package, and is true of its request beside these lines
-pub record IsPackageAnswer (texts : Texts) (limit : ℕ) (beside : List ℕ) (found : IndexPackage) (answer : PackageAnswer) : Type 0 where
-  pub name : answer.name ≡ found.pkg.name
-  pub version : answer.version ≡ found.pkg.version
-  pub holds : IsAnsweredBy texts (request_of beside found) limit answer.installability
+pub record IsPackageAnswer (texts : Texts) (limit : ℕ) (beside : List ℕ) (stanza : IndexPackage) (answer : PackageAnswer) : Type 0 where
+  pub name : answer.name ≡ stanza.pkg.name
+  pub version : answer.version ≡ stanza.pkg.version
+  pub holds : IsAnsweredBy texts (request_of beside stanza) limit answer.installability
 
 -- the names that are asked about
 abbrev pub names_of : Installable → List (List ℕ)
@@ -84,7 +84,7 @@ pub record AreAnswered (texts : Texts) (question : Installable) (surveyed : Surv
 
 -- the request for the package, beside these lines, is refused so, in the place of that of the texts
 abbrev pub IsRefusedFor : Texts → List ℕ → Refusal → IndexPackage → Type 0
-IsRefusedFor texts beside refused found = IsRefusal (asking (request_of beside found) texts) refused
+IsRefusedFor texts beside refused stanza = IsRefusal (asking (request_of beside stanza) texts) refused
 
 -- the texts before the request are refused so, or the request for one of these packages is
 abbrev pub IsRefusedAmong : Texts → List ℕ → List IndexPackage → Refusal → Type 0

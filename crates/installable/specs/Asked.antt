@@ -12,7 +12,7 @@ use Rattle.installable.specs.declared.shard.Shard.{Shard}
 
 -- a stanza of the indices has the name
 abbrev pub has_package : List Index → List ℕ → Bool
-has_package indices name = list_any (λ index. list_any (λ found. bytes_eq found.pkg.name name) index.listed) indices
+has_package indices name = list_any (λ index. list_any (λ stanza. bytes_eq stanza.pkg.name name) index.listed) indices
 
 -- where the first of the names stands that no stanza has
 abbrev pub first_missing : List Index → List (List ℕ) → Option ℕ
@@ -24,7 +24,7 @@ unknown_name at = record { place = place.Request; fault = fault.UnknownName (at 
 
 -- the package has one of the names, or there are none
 abbrev pub is_asked : List (List ℕ) → IndexPackage → Bool
-is_asked names found = (length names == 0) || list_any (λ name. bytes_eq name found.pkg.name) names
+is_asked names stanza = (length names == 0) || list_any (λ name. bytes_eq name stanza.pkg.name) names
 
 -- the stanzas of the indices that are asked about where these names are, each of which a stanza has: by name and version, of those of
 -- one version the earliest alone; and of these the shard

@@ -7,7 +7,7 @@ use Rattle.rules.specs.Step.{IndexPackage}
 
 -- the names of the stanzas with a field `Essential: yes` (Policy 5.6.9)
 abbrev pub names_marked : List IndexPackage → List (List ℕ)
-names_marked listed = map (λ found. found.pkg.name) (filter (λ found. found.says_essential) listed)
+names_marked listed = map (λ stanza. stanza.pkg.name) (filter (λ stanza. stanza.says_essential) listed)
 
 -- the names that a stanza of the indices says are essential, each once, in the order in which each comes first
 abbrev pub essential_names : List Index → List (List ℕ)

@@ -17,8 +17,8 @@ lines_beside names asks_all_versions = flat_map line_of names ++ line_if asks_al
 
 -- the line that asks for this version of the package
 abbrev pub line_for : IndexPackage → List ℕ
-line_for found = codes "install " ++ found.pkg.name ++ codes " (= " ++ found.pkg.version ++ codes ")\n"
+line_for stanza = codes "install " ++ stanza.pkg.name ++ codes " (= " ++ stanza.pkg.version ++ codes ")\n"
 
 -- the request for this version of the package, beside these lines
 abbrev pub request_of : List ℕ → IndexPackage → List ℕ
-request_of beside found = line_for found ++ beside
+request_of beside stanza = line_for stanza ++ beside

@@ -77,7 +77,9 @@ fn asked_of<'p, 'a>(
     index: &'p Index<'a>,
     names: &[&str],
 ) -> Result<Vec<Stanza<'p, 'a>>, AllocError>
-    ensures { IfOk result (λ asked. asked.items ≡ filter (is_asked (map (λ name. name.now) names.now)) index.now.index.listed) }
+    ensures { IfOk result
+        (λ asked. asked.items
+        ≡ filter (is_asked (map (λ name. name.now) names.now)) index.now.index.listed) }
 {
     let mut asked = Vec::new(alloc);
     for entry in index.packages() {
@@ -95,7 +97,8 @@ fn asked_of_all<'p, 'a>(
     names: &[&str],
 ) -> Result<Vec<Stanza<'p, 'a>>, AllocError>
     ensures { IfOk result (λ asked. asked.items
-        ≡ filter (is_asked (map (λ name. name.now) names.now)) (all_listed (indices_of indices.now))) }
+        ≡ filter (is_asked (map (λ name. name.now) names.now))
+        (all_listed (indices_of indices.now))) }
 {
     let mut asked = Vec::new(alloc);
     for index in indices {
@@ -124,7 +127,8 @@ pub(crate) fn stanzas_asked<'p, 'a>(
     names: &[&str],
 ) -> Result<Vec<Stanza<'p, 'a>>, AllocError>
     ensures { IfOk result (λ ordered.
-        IsOrdered (filter (is_asked (map (λ name. name.now) names.now)) (all_listed (indices_of indices.now))) ordered.items) }
+        IsOrdered (filter (is_asked (map (λ name. name.now) names.now))
+        (all_listed (indices_of indices.now))) ordered.items) }
 {
     let stanzas = asked_of_all(alloc, indices, names)?;
     let ordered = in_order(stanzas)?;

@@ -29,7 +29,8 @@ fn add_name(alloc: Global, names: &mut Vec<Text>, name: &[u8]) -> Result<(), All
 
 // Puts the names behind the others that the index says are essential, each unless it is there.
 fn add_marked(alloc: Global, names: &mut Vec<Text>, index: &Index<'_>) -> Result<(), AllocError>
-    ensures { OnOk result (names.new.items ≡ fold with_name names.old.items (names_marked index.now.index.listed)) }
+    ensures { OnOk result
+        (names.new.items ≡ fold with_name names.old.items (names_marked index.now.index.listed)) }
 {
     for entry in index.packages() {
         if entry.says_essential() {

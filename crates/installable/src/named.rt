@@ -9,14 +9,17 @@ use inputs::{Fault, Input, Refusal};
 
 // Whether a stanza of the index has the name.
 fn index_has(index: &Index<'_>, name: &[u8]) -> bool
-    ensures { result ≡ list_any (λ found. bytes_eq found.pkg.name name.now) index.now.index.listed }
+    ensures { result
+        ≡ list_any (λ stanza. bytes_eq stanza.pkg.name name.now) index.now.index.listed }
 {
     index.packages().iter().any(|entry| entry.name() == name)
 }
 
 // Whether one of the indices has a stanza of the name.
 fn some_has(indices: &[Index<'_>], name: &[u8]) -> bool
-    ensures { result ≡ list_any (λ read. list_any (λ found. bytes_eq found.pkg.name name.now) read.index.listed) indices.now }
+    ensures { result
+        ≡ list_any (λ read.
+        list_any (λ stanza. bytes_eq stanza.pkg.name name.now) read.index.listed) indices.now }
 {
     indices.iter().any(|index| index_has(index, name))
 }
@@ -30,7 +33,8 @@ fn has_package(indices: &[Index<'_>], name: &[u8]) -> bool
 
 // Where the first of the names stands that no stanza has, among these words.
 fn place_of_missing(indices: &[Index<'_>], names: &[&str]) -> Option<usize>
-    ensures { result ≡ position (λ name. not (has_package (indices_of indices.now) name.now)) names.now }
+    ensures { result
+        ≡ position (λ name. not (has_package (indices_of indices.now) name.now)) names.now }
 {
     names
         .iter()
@@ -47,9 +51,11 @@ fn first_missing(indices: &[Index<'_>], names: &[&str]) -> Option<usize>
 /// Refuses the first of the names that no stanza of the indices has (E17), with its number among them. Each name costs a walk over the
 /// stanzas.
 pub(crate) fn check_names(indices: &[Index<'_>], names: &[&str]) -> Result<(), Refusal>
-    ensures none { OnOk result (first_missing (indices_of indices.now) (map (λ name. name.now) names.now) ≡ None) }
+    ensures none { OnOk result
+        (first_missing (indices_of indices.now) (map (λ name. name.now) names.now) ≡ None) }
     ensures missing { IfErr result (λ refused. (place : ℕ)
-        × (first_missing (indices_of indices.now) (map (λ name. name.now) names.now) ≡ Some place) × (refused ≡ unknown_name place)) }
+        × (first_missing (indices_of indices.now) (map (λ name. name.now) names.now) ≡ Some place)
+        × (refused ≡ unknown_name place)) }
 {
     match first_missing(indices, names) {
         None => Ok(()),

@@ -15,8 +15,8 @@ use crate::asked::Stanza;
 use crate::question::Installable;
 use crate::request_text::request_of;
 use inputs::{Before, Refusal, Requested, requested_in};
-use reasons::{core, sentences};
 use refutation::Refutation;
+use refutation_sentences::{core, sentences};
 use refutecheck::Premises;
 use rules::{Items, Text};
 use solver::{Decided, decide};
@@ -61,7 +61,8 @@ fn refuted_by(
     requires few { length requested.now.universe.pairs < 2 ^ 32 }
     requires distinct { HaveDistinctNames requested.now.universe.starts }
     ensures request { IfOk result (λ refuted. refuted.request ≡ request.now) }
-    ensures text { IfOk result (λ refuted. refuted.refutation ≡ naming_text requested.now.universe.pairs refutation.now) }
+    ensures text { IfOk result
+        (λ refuted. refuted.refutation ≡ naming_text requested.now.universe.pairs refutation.now) }
 {
     let text = write_naming(alloc, &requested.universe, refutation)?;
     let reasons = reasons_of(alloc, before, requested, refutation, explains)?;
@@ -73,7 +74,7 @@ fn refuted_by(
 }
 
 // What is answered to the request where it is decided so and this is its text. Memory alone can fail.
-fn told(
+fn installability_by(
     alloc: Global,
     before: &Before<'_, '_, '_, '_, '_, '_, '_, '_>,
     requested: &Requested<'_, '_>,
@@ -111,7 +112,7 @@ fn installability_over(
     ensures kept { IfOk result (HasRequest request.now) }
 {
     let decided = decide(alloc, &requested.universe, question.limit)?;
-    told(
+    installability_by(
         alloc,
         before,
         requested,
@@ -122,7 +123,7 @@ fn installability_over(
 }
 
 /// Whether the request with this text can be met, over what is read before it. It costs what `inputs::requested_in` and `solver::decide`
-/// cost, and where reasons are wanted what `reasons::core` and `reasons::sentences` do.
+/// cost, and where reasons are wanted what `refutation_sentences::core` and `refutation_sentences::sentences` do.
 pub(crate) fn installability_of<'i, 'a>(
     alloc: Global,
     before: &Before<'_, '_, '_, '_, '_, '_, 'i, 'a>,
@@ -131,8 +132,10 @@ pub(crate) fn installability_of<'i, 'a>(
     question: &Installable<'_>,
 ) -> Result<Installability, Refusal>
     requires { IsListed before.now listing.now }
-    ensures said { (texts : Texts) → AreReadAs texts before.now → IfOk result (IsAnsweredBy texts request.now question.now.limit) }
-    ensures refused { (texts : Texts) → AreReadAs texts before.now → IfErr result (IsRefusal (asking request.now texts)) }
+    ensures said { (texts : Texts) → AreReadAs texts before.now
+        → IfOk result (IsAnsweredBy texts request.now question.now.limit) }
+    ensures refused { (texts : Texts) → AreReadAs texts before.now
+        → IfErr result (IsRefusal (asking request.now texts)) }
     ensures known { IfErr result (λ refused. refused.fault ≢ fault.Read) }
 {
     let requested = requested_in(alloc, before, Some(listing), request)?;

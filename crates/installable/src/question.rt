@@ -28,7 +28,7 @@ use universe_build::Listing;
 /// package by itself. The request of the texts isn't read: the first refusal is one in the order status, sources, indices, preferences,
 /// then E17 of a name that no stanza has, with its number among the names, and then that of the request by itself or for a package. That
 /// packages conflict at the start changes no answer. What is admitted is listed once; each package costs what `inputs::requested_in` and
-/// `solver::decide` cost, and of one that is refuted the reasons, where they are wanted, what `reasons::core` and `reasons::sentences` do.
+/// `solver::decide` cost, and of one that is refuted the reasons, where they are wanted, what `refutation_sentences::core` and `refutation_sentences::sentences` do.
 /// The shelf is shown how far the answer is, behind each package.
 #[derive(Clone, Copy)]
 pub struct Installable<'n> {
@@ -52,7 +52,8 @@ fn names_beside(
     indices: &[Index<'_>],
     without_essential: bool,
 ) -> Result<Vec<Text>, AllocError>
-    ensures { IfOk result (λ names. names.items ≡ names_beside without_essential (indices_of indices.now)) }
+    ensures { IfOk result
+        (λ names. names.items ≡ names_beside without_essential (indices_of indices.now)) }
 {
     if without_essential {
         return Ok(Vec::new(alloc));
@@ -119,7 +120,8 @@ impl<'n> Installable<'n> {
         shelf: &mut S,
         before: &Before<'_, '_, '_, '_, '_, '_, '_, '_>,
     ) -> Result<Surveyed, Refusal>
-        ensures said { (texts : Texts) → AreReadAs texts before.now → IsSaidOfPackages texts self.now result }
+        ensures said { (texts : Texts) → AreReadAs texts before.now
+            → IsSaidOfPackages texts self.now result }
         ensures read { IsReadBy S.Shelf shelf.old result shelf.new }
     {
         check_names(before.indices, self.names)?;

@@ -1,9 +1,9 @@
 -- Rows of which steps may stand after what came of those that were handed in.
 use Rattle.std.proofs.Common.{inl, inr, [], ◌∷◌, length, refl, ap, arith}
 use Rattle.journal.specs.Calls.{MayStand, acknowledged, unknown}
-use Rattle.journal.specs.Payload.{Recorded}
+use Rattle.journal.specs.Payload.{RecordedStep}
 
-module _ (a b c : Recorded) where
+module _ (a b c : RecordedStep) where
   -- the one of which it isn't known is left out
   pub left_out : MayStand (acknowledged a ∷ unknown b ∷ acknowledged c ∷ []) (a ∷ c ∷ [])
   left_out = (c ∷ [], refl, inl ([], refl, refl))

@@ -12,7 +12,7 @@ use Rattle.journal.specs.Commit.{HasFront, IsBetween}
 use Rattle.journal.specs.File.{Entry, HeaderFits, framed, front, header}
 use Rattle.journal.specs.History.{History, IsApplicable, IsBeforeOrAfter, IsRecord, Reaches, Shows, StandsFor, followed}
 use Rattle.journal.specs.Ledger.{IsReadFrom, IsSettled, MeansAsBefore, history_of}
-use Rattle.journal.specs.Payload.{Recorded, Says}
+use Rattle.journal.specs.Payload.{RecordedStep, Says}
 use Rattle.journal.proofs.HistoryLemmas.{begun_reaches, front_push, length-framed, stands_push}
 
 -- a gate, a record and the closed gate behind it
@@ -24,7 +24,7 @@ gate_of named start entries gate payload tail =
     ∙ sym (append_assoc (front named start entries) (gate ∷ framed payload) (0 ∷ tail))
     ∙ ap (λ (l : List ℕ). l ++ 0 ∷ tail) (sym (front_push named start entries (gate, payload)))
 
-module _ (named : Option (List ℕ)) (entries : List Entry) (h : History) (payload : List ℕ) (r : Recorded)
+module _ (named : Option (List ℕ)) (entries : List Entry) (h : History) (payload : List ℕ) (r : RecordedStep)
     (stands : StandsFor named entries h) (says : Says payload r) (fits : length payload ≤ TEXT_BYTES) (can : IsApplicable h.arch r h.slots) where
   -- each file that a crash leaves while the record is added shows the history, without the step or with it
   pub between : (c : List ℕ) → IsBetween (front named h.start entries) (framed payload ++ 0 ∷ []) c → IsBeforeOrAfter h r c
@@ -63,12 +63,12 @@ module _ (named : Option (List ℕ)) (entries : List Entry) (h : History) (paylo
       subst (λ (f : List ℕ). Synced f now) (sym (append-nil (front named h.start entries ++ 1 ∷ (framed payload ++ 0 ∷ []))) ∙ gate_of named h.start entries 1 payload []) synced
 
 -- before anything is written each crash leaves the history
-pub nothing_yet : (l : Ledger) (r : Recorded) (now : DiskFacts) → IsSettled l now → LeavesOnly (IsBeforeOrAfter (history_of l) r) now now
+pub nothing_yet : (l : Ledger) (r : RecordedStep) (now : DiskFacts) → IsSettled l now → LeavesOnly (IsBeforeOrAfter (history_of l) r) now now
 nothing_yet l r now settled = started (IsBeforeOrAfter (history_of l) r) now
     (λ c left. inl (record { named = settled.named; entries = settled.entries; tail = []; stands = settled.stands; is = settled.file.leaves c left }))
 
 -- while the record is added
-pub adds : (l : Ledger) (r : Recorded) (payload bytes : List ℕ) (a d : DiskFacts) (settled : IsSettled l a) → Says payload r → length payload ≤ TEXT_BYTES
+pub adds : (l : Ledger) (r : RecordedStep) (payload bytes : List ℕ) (a d : DiskFacts) (settled : IsSettled l a) → Says payload r → length payload ≤ TEXT_BYTES
     → IsApplicable l.database.arch r l.database.slots → bytes ≡ framed payload ++ 0 ∷ []
     → LeavesOnly (IsBetween (front settled.named l.start.now settled.entries) bytes) a d → LeavesOnly (IsBeforeOrAfter (history_of l) r) a d
 adds l r payload bytes a d settled says fits can is run =
@@ -77,7 +77,7 @@ adds l r payload bytes a d settled says fits can is run =
     (subst (λ (b : List ℕ). IsBetween (front settled.named l.start.now settled.entries) b c) is at)) run
 
 -- when it is added
-pub added : (old new : Ledger) (r : Recorded) (payload bytes : List ℕ) (a d : DiskFacts) (settled : IsSettled old a) → Says payload r → length payload ≤ TEXT_BYTES
+pub added : (old new : Ledger) (r : RecordedStep) (payload bytes : List ℕ) (a d : DiskFacts) (settled : IsSettled old a) → Says payload r → length payload ≤ TEXT_BYTES
     → IsApplicable old.database.arch r old.database.slots → bytes ≡ framed payload ++ 0 ∷ [] → history_of new ≡ followed (history_of old) r
     → new.gate ≡ old.gate + (5 + length payload) → new.broken ≡ old.broken
     → Synced (front settled.named old.start.now settled.entries ++ 1 ∷ bytes) d → IsSettled new d

@@ -9,7 +9,7 @@ use Rattle.journal.specs.declared.error.OpenError.TheVariants as error
 use Rattle.journal.specs.declared.ledger.Ledger.{Ledger}
 use Rattle.journal.specs.Fault.{HasHeader, IsMarked, IsReadFault}
 use Rattle.journal.specs.File.{HeaderFits, header, magic_of}
-use Rattle.journal.specs.declared.header.Version.TheVariants.{One, Two}
+use Rattle.journal.specs.declared.header.FormatVersion.TheVariants.{One, Two}
 use Rattle.journal.specs.History.{IsFor, Reaches}
 use Rattle.journal.specs.Ledger.{IsReadFrom, history_of}
 use Rattle.journal.specs.Reading.{IsPushedFault, IsStartFault}

@@ -3,13 +3,13 @@ use Rattle.std.proofs.Common.{◌≡◌, ℕ, ◌<◌, ◌≤◌, ◌^◌, Some,
 use Rattle.std.proofs.lemmas.List.{take-append-le, take_all}
 use Rattle.journal.specs.Creating.{IsUnmade, unmade}
 use Rattle.std.specs.Int.{w16, w64, to_be_bytes}
-use Rattle.journal.specs.declared.header.Version.{Version}
-use Rattle.journal.specs.declared.header.Version.TheVariants.{One, Two}
+use Rattle.journal.specs.declared.header.FormatVersion.{FormatVersion}
+use Rattle.journal.specs.declared.header.FormatVersion.TheVariants.{One, Two}
 use Rattle.journal.specs.Fault.{IsMarked}
 use Rattle.journal.specs.File.{HeaderFits, header, magic_of}
 use Rattle.journal.proofs.NumberLemmas.{cut_once}
 
-pub magic_size : (version : Version) → length (magic_of version) ≡ 8
+pub magic_size : (version : FormatVersion) → length (magic_of version) ≡ 8
 unfolding magic_of
 magic_size One = refl
 magic_size Two = refl
@@ -19,7 +19,7 @@ unfolding magic_of
 magics_differ x y same = let last : 49 ≡ 50 = ap (λ (l : List ℕ). get_or l 7 0) same in omega (arith, last)
 
 -- bytes that no version begins with
-pub neither : (magic : List ℕ) → ¬ (magic ≡ magic_of One) → ¬ (magic ≡ magic_of Two) → (version : Version) → ¬ (magic ≡ magic_of version)
+pub neither : (magic : List ℕ) → ¬ (magic ≡ magic_of One) → ¬ (magic ≡ magic_of Two) → (version : FormatVersion) → ¬ (magic ≡ magic_of version)
 neither magic a b One = a
 neither magic a b Two = b
 
@@ -29,7 +29,7 @@ short_unmarked file magic rest is size short marked =
     omega (arith, ap length is, length-append magic rest, size, short, ap length marked.is, length-append (magic_of marked.version) marked.rest, magic_size marked.version, marked.enough)
 
 -- nor are bytes that begin as no version does
-pub other_unmarked : (file magic rest : List ℕ) → file ≡ magic ++ rest → length magic ≡ 8 → ((version : Version) → ¬ (magic ≡ magic_of version)) → ¬ IsMarked file
+pub other_unmarked : (file magic rest : List ℕ) → file ≡ magic ++ rest → length magic ≡ 8 → ((version : FormatVersion) → ¬ (magic ≡ magic_of version)) → ¬ IsMarked file
 other_unmarked file magic rest is size other marked =
     other marked.version (cut_once magic (magic_of marked.version) rest marked.rest (size ∙ sym (magic_size marked.version)) (sym is ∙ marked.is)).0
 
@@ -83,7 +83,7 @@ image_size arch start =
     omega (arith, ap length (header_2 arch start (0 ∷ [])), length-append (magic_of Two) rest, magic_size Two)
 
 -- no version begins as a file does that is being made
-not_unmade : (version : Version) → ¬ (magic_of version ≡ unmade)
+not_unmade : (version : FormatVersion) → ¬ (magic_of version ≡ unmade)
 unfolding magic_of unmade
 not_unmade One same = let last : 49 ≡ 48 = ap (λ (l : List ℕ). get_or l 7 0) same in omega (arith, last)
 not_unmade Two same = let last : 50 ≡ 48 = ap (λ (l : List ℕ). get_or l 7 0) same in omega (arith, last)

@@ -12,7 +12,7 @@ use Rattle.journal.specs.File.{Entry, HeaderFits, entries_bytes, framed, front, 
 use Rattle.journal.specs.Fault.{IsStuck, IsStuckAt}
 use Rattle.journal.specs.History.{AreRecords, History, IsApplicable, IsFor, IsRecord, Leads, Reaches, StandsFor, followed, slots_left}
 use Rattle.journal.specs.Ledger.{history_of}
-use Rattle.journal.specs.Payload.{Recorded}
+use Rattle.journal.specs.Payload.{RecordedStep}
 use Rattle.journal.specs.Reading.{IsPushed, IsPushFault, IsPushedFault}
 
 pub length-framed : (payload : List ℕ) → length (framed payload) ≡ 4 + length payload
@@ -28,20 +28,20 @@ pub front_push : (named : Option (List ℕ)) (start : List ℕ) (entries : List 
 front_push named start entries e =
     ap (λ (l : List ℕ). header named start ++ l) (entries_push entries e) ∙ sym (append_assoc (header named start) (entries_bytes entries) (e.0 ∷ framed e.1))
 
-records_push : (entries : List Entry) (steps : List Recorded) (e : Entry) (r : Recorded) → AreRecords entries steps → IsRecord e r
+records_push : (entries : List Entry) (steps : List RecordedStep) (e : Entry) (r : RecordedStep) → AreRecords entries steps → IsRecord e r
     → AreRecords (entries ++ e ∷ []) (steps ++ r ∷ [])
 records_push [] [] e r are is = (is, tt)
 records_push [] (b ∷ steps) e r are is = absurd are
 records_push (a ∷ entries) [] e r are is = absurd are
 records_push (a ∷ entries) (b ∷ steps) e r are is = (are.0, records_push entries steps e r are.1 is)
 
-leads_push : (arch : List ℕ) (slots : List FileSlot) (steps : List Recorded) (r : Recorded) (last : List FileSlot) → Leads arch slots steps last
+leads_push : (arch : List ℕ) (slots : List FileSlot) (steps : List RecordedStep) (r : RecordedStep) (last : List FileSlot) → Leads arch slots steps last
     → IsApplicable arch r last → Leads arch slots (steps ++ r ∷ []) (slots_left arch r last)
 leads_push arch slots [] r last is can = (subst (λ (s : List FileSlot). IsApplicable arch r s) is can, ap (λ (s : List FileSlot). slots_left arch r s) is)
 leads_push arch slots (s ∷ steps) r last leads can = (leads.0, leads_push arch (slots_left arch s slots) steps r last leads.1 can)
 
 -- one record more stands for one step more
-pub stands_push : (named : Option (List ℕ)) (entries : List Entry) (h : History) (e : Entry) (r : Recorded) → StandsFor named entries h → IsRecord e r
+pub stands_push : (named : Option (List ℕ)) (entries : List Entry) (h : History) (e : Entry) (r : RecordedStep) → StandsFor named entries h → IsRecord e r
     → IsApplicable h.arch r h.slots → StandsFor named (entries ++ e ∷ []) (followed h r)
 stands_push named entries h e r stands is can = record {
   header = stands.header;
@@ -52,7 +52,7 @@ stands_push named entries h e r stands is can = record {
   leads = leads_push h.arch stands.first h.steps r h.slots stands.leads can;
 }
 
-reaches_push : (file : List ℕ) (h : History) (at : ℕ) (rest : List ℕ) (e : Entry) (r : Recorded) (behind : List ℕ) → Reaches file h at rest → IsRecord e r
+reaches_push : (file : List ℕ) (h : History) (at : ℕ) (rest : List ℕ) (e : Entry) (r : RecordedStep) (behind : List ℕ) → Reaches file h at rest → IsRecord e r
     → IsApplicable h.arch r h.slots → rest ≡ e.0 ∷ framed e.1 ++ behind → Reaches file (followed h r) (at + (5 + length e.1)) behind
 reaches_push file h at rest e r behind reaches is can there = record {
   named = reaches.named;
@@ -101,10 +101,10 @@ begun_reaches file l named arch start records slots fits for_it begins is starts
   stands = record {
     header = subst (λ (s : List ℕ). HeaderFits named s) (sym starts) fits;
     for_it = subst (λ (a : List ℕ). IsFor a named) (sym archs) for_it;
-    records = subst (λ (rs : List Recorded). AreRecords [] rs) (sym none) tt;
+    records = subst (λ (rs : List RecordedStep). AreRecords [] rs) (sym none) tt;
     first = slots;
     begins = ap (λ (a : List ℕ). read_stored a l.start.now) archs ∙ ap (λ (s : List ℕ). read_stored arch s) starts ∙ begins;
-    leads = subst (λ (rs : List Recorded). Leads l.database.arch slots rs l.database.slots) (sym none) slotss;
+    leads = subst (λ (rs : List RecordedStep). Leads l.database.arch slots rs l.database.slots) (sym none) slotss;
   };
   is = is ∙ ap (λ (s : List ℕ). header named s ++ records) (sym starts) ∙ ap (λ (l : List ℕ). l ++ records) (sym (append-nil (header named l.start.now)));
   offset = omega (arith, gate, ap length is, length-append (header named start) records, ap (λ (s : List ℕ). length (header named s)) starts, ap length (append-nil (header named l.start.now)));

@@ -37,8 +37,8 @@ parted_at text at is =
     let p : ℕ → Bool = λ b. eqb b 10 in
     elim (cases_Bool (ltb (position_or_len p text) (length text))) [
       | inl inside ↦
-          let found : position p text ≡ Some (position_or_len p text) = rw inside refl in
-          let same : position_or_len p text ≡ at = cc (is, found) in
+          let position_is : position p text ≡ Some (position_or_len p text) = rw inside refl in
+          let same : position_or_len p text ≡ at = cc (is, position_is) in
           subst (λ n. Parted (n + 1) text) same (parted text)
       | inr past ↦ let none : position p text ≡ None = rw past refl in absurd (cc (is, none))
     ]
@@ -48,7 +48,7 @@ pub parted_past : (text : List ℕ) → position (λ b. eqb b 10) text ≡ None 
 parted_past text is =
     let p : ℕ → Bool = λ b. eqb b 10 in
     elim (cases_Bool (ltb (position_or_len p text) (length text))) [
-      | inl inside ↦ let found : position p text ≡ Some (position_or_len p text) = rw inside refl in absurd (cc (is, found))
+      | inl inside ↦ let position_is : position p text ≡ Some (position_or_len p text) = rw inside refl in absurd (cc (is, position_is))
       | inr past ↦
           let far : length text ≤ position_or_len p text + 1 = let le = ltb-false _ _ past in omega (arith, le) in
           let later = parted text in
@@ -118,7 +118,7 @@ step_first line step behind read = elim (cases_Bool (ltb 268435456 (length line)
   | inl long ↦ absurd (cc (rw long at read))
   | inr short ↦ with_line (only_line (parts_at 10 line)) refl (rw short at read)
 ] where
-  with_line : (found : Option (List ℕ)) → only_line (parts_at 10 line) ≡ found
-      → ok_or (option_and_then step_of found) (BadPlan 1) ≡ Ok step → IsFirst line behind
+  with_line : (answer : Option (List ℕ)) → only_line (parts_at 10 line) ≡ answer
+      → ok_or (option_and_then step_of answer) (BadPlan 1) ≡ Ok step → IsFirst line behind
   with_line None is e = absurd (cc e)
   with_line (Some only) is e = line_first line only behind is

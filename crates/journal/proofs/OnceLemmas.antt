@@ -6,17 +6,17 @@ use Rattle.status.specs.Stored.{read_stored}
 use Rattle.status_text.specs.declared.error.StatusFault.{StatusFault}
 use Rattle.journal.specs.File.{Entry, entries_bytes, framed, front, header}
 use Rattle.journal.specs.History.{AreRecords, History, Leads, Shows, slots_left}
-use Rattle.journal.specs.Payload.{Recorded, Says}
+use Rattle.journal.specs.Payload.{RecordedStep, Says}
 use Rattle.journal.proofs.FaultLemmas.{header_once}
 use Rattle.journal.proofs.NumberLemmas.{cut_once}
 use Rattle.journal.proofs.RecordLemmas.{framed_once, says_once}
 
-leads_once : (arch : List ℕ) (slots : List FileSlot) (steps : List Recorded) (x y : List FileSlot) → Leads arch slots steps x → Leads arch slots steps y → x ≡ y
+leads_once : (arch : List ℕ) (slots : List FileSlot) (steps : List RecordedStep) (x y : List FileSlot) → Leads arch slots steps x → Leads arch slots steps y → x ≡ y
 leads_once arch slots [] x y a b = a ∙ sym b
 leads_once arch slots (r ∷ later) x y a b = leads_once arch (slots_left arch r slots) later x y a.1 b.1
 
 -- the records up to the closed gate
-records_once : (es fs : List Entry) (hs ks : List Recorded) (x y : List ℕ) → AreRecords es hs → AreRecords fs ks → entries_bytes es ++ 0 ∷ x ≡ entries_bytes fs ++ 0 ∷ y → hs ≡ ks
+records_once : (es fs : List Entry) (hs ks : List RecordedStep) (x y : List ℕ) → AreRecords es hs → AreRecords fs ks → entries_bytes es ++ 0 ∷ x ≡ entries_bytes fs ++ 0 ∷ y → hs ≡ ks
 records_once [] [] [] [] x y a b same = refl
 records_once [] fs (h ∷ hs) ks x y a b same = absurd a
 records_once (e ∷ es) fs [] ks x y a b same = absurd a
@@ -56,6 +56,6 @@ shows_once file h k a b arch =
     let leads : Leads k.arch b.stands.first k.steps h.slots =
     subst (λ (l : List ℕ). Leads l b.stands.first k.steps h.slots) arch
     (subst (λ (f : List FileSlot). Leads h.arch f k.steps h.slots) first
-    (subst (λ (s : List Recorded). Leads h.arch a.stands.first s h.slots) steps a.stands.leads)) in
+    (subst (λ (s : List RecordedStep). Leads h.arch a.stands.first s h.slots) steps a.stands.leads)) in
     let slots : h.slots ≡ k.slots = leads_once k.arch b.stands.first k.steps h.slots k.slots leads b.stands.leads in
     (λ i. record { arch = arch i; start = one.starts i; steps = steps i; slots = slots i })

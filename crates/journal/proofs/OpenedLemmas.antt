@@ -6,11 +6,11 @@ use Rattle.status_text.specs.Slot.{FileSlot}
 use Rattle.status.specs.Stored.{read_stored}
 use Rattle.journal.specs.declared.error.OpenError.{OpenError}
 use Rattle.journal.specs.declared.error.OpenError.TheVariants as error
-use Rattle.journal.specs.declared.header.Version.TheVariants.{One, Two}
+use Rattle.journal.specs.declared.header.FormatVersion.TheVariants.{One, Two}
 use Rattle.journal.specs.Fault.{IsDamaged, IsMarked, IsOfAnother, IsOpenFault, IsReadFault, IsStuck, IsStuckAt, IsWithoutStart}
 use Rattle.journal.specs.File.{Entry, entries_bytes, framed, front, header}
 use Rattle.journal.specs.History.{AreRecords, History, IsApplicable, IsFor, Leads, Shows, slots_left}
-use Rattle.journal.specs.Payload.{Recorded, Says}
+use Rattle.journal.specs.Payload.{RecordedStep, Says}
 use Rattle.journal.proofs.FaultLemmas.{header_once}
 use Rattle.journal.proofs.HeaderLemmas.{header_1, header_2}
 use Rattle.journal.proofs.NumberLemmas.{cut_once}
@@ -38,7 +38,7 @@ behind : (file : List ℕ) (named : Option (List ℕ)) (start : List ℕ) (entri
 behind file named start entries rest is = is ∙ append_assoc (header named start) (entries_bytes entries) rest
 
 -- at a gate of a file whose records are read up to a closed gate something can be read
-not_stuck : (arch : List ℕ) (es fs : List Entry) (hs ks : List Recorded) (slots last before : List FileSlot) (tail rest : List ℕ) → AreRecords es hs → AreRecords fs ks
+not_stuck : (arch : List ℕ) (es fs : List Entry) (hs ks : List RecordedStep) (slots last before : List FileSlot) (tail rest : List ℕ) → AreRecords es hs → AreRecords fs ks
     → Leads arch slots hs last → Leads arch slots ks before → entries_bytes es ++ 0 ∷ tail ≡ entries_bytes fs ++ rest → IsStuck arch before rest → ⊥
 not_stuck arch [] [] [] [] slots last before tail rest a b la lb same stuck = stuck.not_closed tail (sym same)
 not_stuck arch [] fs (h ∷ hs) ks slots last before tail rest a b la lb same stuck = absurd a
@@ -57,7 +57,7 @@ not_stuck arch (e ∷ es) (f ∷ fs) (h ∷ hs) (k ∷ ks) slots last before tai
     let once = framed_once e.1 f.1 (entries_bytes es ++ 0 ∷ tail) (entries_bytes fs ++ rest) a.0.fits b.0.fits
     (sym (append_assoc (framed e.1) (entries_bytes es) (0 ∷ tail)) ∙ later ∙ append_assoc (framed f.1) (entries_bytes fs) rest) in
     let one : h ≡ k = says_once f.1 h k (subst (λ (p : List ℕ). Says p h) once.0 a.0.says) b.0.says in
-    let leads : Leads arch (slots_left arch h slots) ks before = subst (λ (r : Recorded). Leads arch (slots_left arch r slots) ks before) (sym one) lb.1 in
+    let leads : Leads arch (slots_left arch h slots) ks before = subst (λ (r : RecordedStep). Leads arch (slots_left arch r slots) ks before) (sym one) lb.1 in
     not_stuck arch es fs hs ks (slots_left arch h slots) last before tail rest a.1 b.1 la.1 leads once.1 stuck
 
 module _ (arch file : List ℕ) (h : History) (shows : Shows file h) (for_it : h.arch ≡ arch) where

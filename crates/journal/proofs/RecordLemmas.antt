@@ -11,7 +11,7 @@ use Rattle.status_text.specs.Slot.{FileSlot}
 use Rattle.journal.specs.File.{framed}
 use Rattle.journal.specs.Fault.{IsStuck}
 use Rattle.journal.specs.History.{IsApplicable}
-use Rattle.journal.specs.Payload.{HasItsText, Recorded, Says}
+use Rattle.journal.specs.Payload.{HasItsText, RecordedStep, Says}
 use Rattle.journal.proofs.NumberLemmas.{cut_once, four_once}
 
 pub framed_once : (a b x y : List ℕ) → length a ≤ TEXT_BYTES → length b ≤ TEXT_BYTES → framed a ++ x ≡ framed b ++ y → (a ≡ b) × (x ≡ y)
@@ -42,7 +42,7 @@ ok_once : (a b : Step) (read : Result Step PlanFault) → read ≡ Ok a → read
 ok_once a b read ra rb = cc (ra, rb)
 
 -- a payload says one thing
-pub says_once : (payload : List ℕ) (a b : Recorded) → Says payload a → Says payload b → a ≡ b
+pub says_once : (payload : List ℕ) (a b : RecordedStep) → Says payload a → Says payload b → a ≡ b
 says_once payload a b sa sb =
     let steps : a.step ≡ b.step = ok_once a.step b.step _ sa.step sb.step in
     let texts : a.stanza ≡ b.stanza = text_once a.step a.stanza b.stanza sa.text (subst (λ (s : Step). HasItsText s b.stanza) (sym steps) sb.text) (sym sa.behind ∙ sb.behind) in
@@ -50,7 +50,7 @@ says_once payload a b sa sb =
 
 -- a payload that says nothing
 pub stuck_unsaid : (arch : List ℕ) (slots : List FileSlot) (rest : List ℕ) (gate : ℕ) (payload behind : List ℕ) → ((tail : List ℕ) → ¬ (rest ≡ 0 ∷ tail))
-    → length payload ≤ TEXT_BYTES → rest ≡ gate ∷ framed payload ++ behind → ((recorded : Recorded) → ¬ Says payload recorded) → IsStuck arch slots rest
+    → length payload ≤ TEXT_BYTES → rest ≡ gate ∷ framed payload ++ behind → ((recorded : RecordedStep) → ¬ Says payload recorded) → IsStuck arch slots rest
 stuck_unsaid arch slots rest gate payload behind open_gate fits is unsaid = record {
   not_closed = open_gate;
   no_step = λ g p tail recorded size there says applicable.
@@ -59,12 +59,12 @@ stuck_unsaid arch slots rest gate payload behind open_gate fits is unsaid = reco
 }
 
 -- a payload whose step can't be taken
-pub stuck_refused : (arch : List ℕ) (slots : List FileSlot) (rest : List ℕ) (gate : ℕ) (payload behind : List ℕ) (said : Recorded) → ((tail : List ℕ) → ¬ (rest ≡ 0 ∷ tail))
+pub stuck_refused : (arch : List ℕ) (slots : List FileSlot) (rest : List ℕ) (gate : ℕ) (payload behind : List ℕ) (said : RecordedStep) → ((tail : List ℕ) → ¬ (rest ≡ 0 ∷ tail))
     → length payload ≤ TEXT_BYTES → rest ≡ gate ∷ framed payload ++ behind → Says payload said → ¬ IsApplicable arch said slots → IsStuck arch slots rest
 stuck_refused arch slots rest gate payload behind said open_gate fits is says refused = record {
   not_closed = open_gate;
   no_step = λ g p tail recorded size there saying applicable.
       let same = framed_once p payload tail behind size fits (ap (λ (l : List ℕ). drop 1 l) (sym there ∙ is)) in
       let one : recorded ≡ said = says_once payload recorded said (subst (λ (l : List ℕ). Says l recorded) same.0 saying) says in
-      refused (subst (λ (r : Recorded). IsApplicable arch r slots) one applicable);
+      refused (subst (λ (r : RecordedStep). IsApplicable arch r slots) one applicable);
 }

@@ -11,26 +11,26 @@ use Rattle.journal.specs.Creating.{IsCreated}
 use Rattle.journal.specs.File.{front}
 use Rattle.journal.specs.History.{History, IsBeforeOrAfter, Shows, followed}
 use Rattle.journal.specs.Ledger.{IsSettled, MeansAsBefore, history_of}
-use Rattle.journal.specs.Payload.{Recorded}
+use Rattle.journal.specs.Payload.{RecordedStep}
 use Rattle.journal.proofs.OnceLemmas.{shows_once}
 
 -- behind steps that may stand others that may stand
-stand_join : (came more : List Came) (steps next : List Recorded) → MayStand came steps → MayStand more next → MayStand (came ++ more) (steps ++ next)
-stand_join [] more steps next is stands = subst (λ (s : List Recorded). MayStand more (s ++ next)) (sym is) stands
+stand_join : (came more : List Came) (steps next : List RecordedStep) → MayStand came steps → MayStand more next → MayStand (came ++ more) (steps ++ next)
+stand_join [] more steps next is stands = subst (λ (s : List RecordedStep). MayStand more (s ++ next)) (sym is) stands
 stand_join (acknowledged r ∷ later) more steps next (rest, is, first) stands =
-    (rest ++ next, ap (λ (s : List Recorded). s ++ next) is, stand_join later more rest next first stands)
+    (rest ++ next, ap (λ (s : List RecordedStep). s ++ next) is, stand_join later more rest next first stands)
 stand_join (unknown r ∷ later) more steps next (inl first) stands = inl (stand_join later more steps next first stands)
 stand_join (unknown r ∷ later) more steps next (inr (rest, is, first)) stands =
-    inr (rest ++ next, ap (λ (s : List Recorded). s ++ next) is, stand_join later more rest next first stands)
+    inr (rest ++ next, ap (λ (s : List RecordedStep). s ++ next) is, stand_join later more rest next first stands)
 
 -- a history behind which other steps may stand
-goes_further : (before : History) (came more : List Came) (h k : History) (next : List Recorded) → GoesOn before came h → k.arch ≡ h.arch → k.start ≡ h.start
+goes_further : (before : History) (came more : List Came) (h k : History) (next : List RecordedStep) → GoesOn before came h → k.arch ≡ h.arch → k.start ≡ h.start
     → k.steps ≡ h.steps ++ next → MayStand more next → GoesOn before (came ++ more) k
 goes_further before came more h k next on arch start steps stands = record {
   for_it = arch ∙ on.for_it;
   start_is = start ∙ on.start_is;
   later = on.later ++ next;
-  steps_are = steps ∙ ap (λ (s : List Recorded). s ++ next) on.steps_are ∙ append_assoc before.steps on.later next;
+  steps_are = steps ∙ ap (λ (s : List RecordedStep). s ++ next) on.steps_are ∙ append_assoc before.steps on.later next;
   may_stand = stand_join came more on.later next on.may_stand stands;
 }
 
@@ -39,11 +39,11 @@ no_further : (before : History) (came : List Came) (h : History) → GoesOn befo
 no_further before came h on = goes_further before came [] h h [] on refl refl (sym (append-nil h.steps)) refl
 
 -- a step that was acknowledged came behind it
-acknowledged_further : (before : History) (came : List Came) (h : History) (r : Recorded) → GoesOn before came h → GoesOn before (came ++ acknowledged r ∷ []) (followed h r)
+acknowledged_further : (before : History) (came : List Came) (h : History) (r : RecordedStep) → GoesOn before came h → GoesOn before (came ++ acknowledged r ∷ []) (followed h r)
 acknowledged_further before came h r on = goes_further before came (acknowledged r ∷ []) h (followed h r) (r ∷ []) on refl refl refl ([], refl, refl)
 
 -- a step of which it isn't known
-unknown_further : (before : History) (came : List Came) (h : History) (r : Recorded) (file : List ℕ) → GoesOn before came h → IsBeforeOrAfter h r file
+unknown_further : (before : History) (came : List Came) (h : History) (r : RecordedStep) (file : List ℕ) → GoesOn before came h → IsBeforeOrAfter h r file
     → ShowsOneOf before (came ++ unknown r ∷ []) file
 unknown_further before came h r file on (inl shows) =
     (h, goes_further before came (unknown r ∷ []) h h [] on refl refl (sym (append-nil h.steps)) (inl refl), shows)
@@ -69,8 +69,8 @@ opened_further before came old file all (was, left, inr (h, arch, old_shows, sho
 pub shown_from : (arch start : List ℕ) (begun : Ledger) (came : List Came) (file : List ℕ) → IsCreated arch start begun → ShowsOneOf (history_of begun) came file
     → ShowsFrom arch start came file
 shown_from arch start begun came file made (h, on, shows) =
-    let steps : h.steps ≡ on.later = on.steps_are ∙ ap (λ (s : List Recorded). s ++ on.later) made.no_step in
-    (h, on.for_it ∙ made.for_it, on.start_is ∙ made.start_is, subst (λ (s : List Recorded). MayStand came s) (sym steps) on.may_stand, shows)
+    let steps : h.steps ≡ on.later = on.steps_are ∙ ap (λ (s : List RecordedStep). s ++ on.later) made.no_step in
+    (h, on.for_it ∙ made.for_it, on.start_is ∙ made.start_is, subst (λ (s : List RecordedStep). MayStand came s) (sym steps) on.may_stand, shows)
 
 -- its status file is the one that its steps lead to
 pub shown_led : (file : List ℕ) (h : History) → Shows file h → IsLedTo h

@@ -9,9 +9,9 @@ use Rattle.status.specs.Applicable.{handed_in, refused_name}
 use Rattle.status_text.specs.Slot.{Store, slot_records}
 use Rattle.journal.specs.File.{framed}
 use Rattle.journal.specs.History.{IsApplicable}
-use Rattle.journal.specs.Payload.{Recorded, Says}
+use Rattle.journal.specs.Payload.{RecordedStep, Says}
 use Rattle.journal.specs.Spare.{store_left}
-use Rattle.journal.specs.declared.adding.Prepared.{Prepared}
+use Rattle.journal.specs.declared.adding.PreparedStep.{PreparedStep}
 use Rattle.journal.specs.declared.error.AppendError.{AppendError}
 use Rattle.journal.specs.declared.error.AppendError.TheVariants as error
 use Rattle.journal.specs.declared.ledger.Ledger.{Ledger}
@@ -25,15 +25,15 @@ text_for (Remove name) given = None
 text_for (Purge name) given = None
 
 -- what is recorded of a step for which this is handed in
-abbrev pub recorded_of : Step → Option (List ℕ) → Recorded
+abbrev pub recorded_of : Step → Option (List ℕ) → RecordedStep
 recorded_of step given = record { step = step; stanza = text_for step given }
 
 -- the payload of a record: the line of the step, and the text of the stanza
-abbrev pub payload_of : Recorded → List ℕ
+abbrev pub payload_of : RecordedStep → List ℕ
 payload_of recorded = step_line recorded.step ++ unwrap_or recorded.stanza []
 
 -- all that is to be written and remembered of a step that can be taken
-pub record IsPrepared (old : Store) (recorded : Recorded) (prepared : Prepared) : Type 0 where
+pub record IsPrepared (old : Store) (recorded : RecordedStep) (prepared : PreparedStep) : Type 0 where
   pub payload : List ℕ
   pub fits : length payload ≤ TEXT_BYTES
   pub says : Says payload recorded
@@ -44,7 +44,7 @@ pub record IsPrepared (old : Store) (recorded : Recorded) (prepared : Prepared) 
   pub left : prepared.database ≡ store_left old recorded
 
 -- why a step isn't taken: it can't be, or memory was refused
-abbrev pub IsLeftFault : Store → Recorded → AppendError → Type 0
+abbrev pub IsLeftFault : Store → RecordedStep → AppendError → Type 0
 IsLeftFault old recorded error.OutOfMemory = ⊤
 IsLeftFault old recorded (error.NotApplicable name) = refused_name (handed_in old.arch recorded.stanza) recorded.step (slot_records old.slots) ≡ Some name
 IsLeftFault old recorded error.TooLarge = ⊥
@@ -52,11 +52,11 @@ IsLeftFault old recorded error.Disk = ⊥
 IsLeftFault old recorded error.Reopen = ⊥
 
 -- its payload is no longer than a record may have
-abbrev pub FitsRecord : Recorded → Type 0
+abbrev pub FitsRecord : RecordedStep → Type 0
 FitsRecord recorded = length (payload_of recorded) ≤ TEXT_BYTES
 
 -- why a step isn't prepared: a length is above its limit, or none is and the step can't be taken, or memory was refused
-abbrev pub IsPrepareFault : Store → Recorded → AppendError → Type 0
+abbrev pub IsPrepareFault : Store → RecordedStep → AppendError → Type 0
 IsPrepareFault old recorded error.OutOfMemory = ⊤
 IsPrepareFault old recorded error.TooLarge = TEXT_BYTES < length (payload_of recorded)
 IsPrepareFault old recorded (error.NotApplicable name) =
@@ -66,7 +66,7 @@ IsPrepareFault old recorded error.Reopen = ⊥
 
 -- why a step isn't added: as above, or the file is too long, or a call of the disk failed, now or before; that it can't be taken
 -- is told of a step alone whose payload isn't too long
-abbrev pub IsAppendFault : Ledger → Recorded → AppendError → Type 0
+abbrev pub IsAppendFault : Ledger → RecordedStep → AppendError → Type 0
 IsAppendFault old recorded error.OutOfMemory = ⊤
 IsAppendFault old recorded error.TooLarge = (TEXT_BYTES < length (payload_of recorded)) ⊎ (2 ^ 60 ≤ old.gate)
 IsAppendFault old recorded (error.NotApplicable name) =

@@ -7,25 +7,25 @@ use Rattle.status.specs.Stored.{read_stored}
 use Rattle.status_text.specs.Slot.{FileSlot}
 use Rattle.journal.specs.History.{History, IsBeforeOrAfter, Leads, Shows, followed}
 use Rattle.journal.specs.Ledger.{IsSettled, MeansAsBefore, history_of}
-use Rattle.journal.specs.Payload.{Recorded}
+use Rattle.journal.specs.Payload.{RecordedStep}
 use Rattle.journal.specs.declared.ledger.Ledger.{Ledger}
 
 -- what came of a step that was handed in: it was acknowledged, or it isn't known whether it was taken
 pub data Came : Type 0 where
-  acknowledged : Recorded → Came
-  unknown : Recorded → Came
+  acknowledged : RecordedStep → Came
+  unknown : RecordedStep → Came
 
 -- these steps may stand: all that were acknowledged, in their order, and each other one in its place or not at all
-abbrev pub MayStand : List Came → List Recorded → Type 0
+abbrev pub MayStand : List Came → List RecordedStep → Type 0
 MayStand [] steps = steps ≡ []
-MayStand (acknowledged recorded ∷ later) steps = (rest : List Recorded) × (steps ≡ recorded ∷ rest) × MayStand later rest
-MayStand (unknown recorded ∷ later) steps = MayStand later steps ⊎ ((rest : List Recorded) × (steps ≡ recorded ∷ rest) × MayStand later rest)
+MayStand (acknowledged recorded ∷ later) steps = (rest : List RecordedStep) × (steps ≡ recorded ∷ rest) × MayStand later rest
+MayStand (unknown recorded ∷ later) steps = MayStand later steps ⊎ ((rest : List RecordedStep) × (steps ≡ recorded ∷ rest) × MayStand later rest)
 
 -- the history has the start and the steps of the one before, and behind them steps that may stand
 pub record GoesOn (before : History) (came : List Came) (h : History) : Type 0 where
   pub for_it : h.arch ≡ before.arch
   pub start_is : h.start ≡ before.start
-  pub later : List Recorded
+  pub later : List RecordedStep
   pub steps_are : h.steps ≡ before.steps ++ later
   pub may_stand : MayStand came later
 
@@ -45,7 +45,7 @@ pub record IsLedTo (h : History) : Type 0 where
 
 -- a call, of the journal in memory if there is one, at whose end it isn't known whether these steps were taken
 pub data IsCall (arch : List ℕ) (old new : DiskFacts) : Option Ledger → List Came → Type 0 where
-  appends : {ledger : Ledger} (recorded : Recorded) → LeavesOnly (IsBeforeOrAfter (history_of ledger) recorded) old new
+  appends : {ledger : Ledger} (recorded : RecordedStep) → LeavesOnly (IsBeforeOrAfter (history_of ledger) recorded) old new
       → IsCall arch old new (Some ledger) (unknown recorded ∷ [])
   opens : {held : Option Ledger} → LeavesOnly (MeansAsBefore arch old) old new → IsCall arch old new held []
   reads : {held : Option Ledger} → Stays old new → IsCall arch old new held []
@@ -60,7 +60,7 @@ pub data IsRun {D : Type 0} (facts : D → DiskFacts) (before : History) : List 
   -- `create` or `open` answered Ok
   begins : {ledger : Ledger} {disk : D} → history_of ledger ≡ before → IsSettled ledger (facts disk) → IsRun facts before [] (Some ledger) disk
   -- `append` answered Ok
-  adds : {came : List Came} {old new : Ledger} {disk after : D} (recorded : Recorded) → IsRun facts before came (Some old) disk
+  adds : {came : List Came} {old new : Ledger} {disk after : D} (recorded : RecordedStep) → IsRun facts before came (Some old) disk
       → history_of new ≡ followed (history_of old) recorded → IsSettled new (facts after)
       → IsRun facts before (came ++ acknowledged recorded ∷ []) (Some new) after
   -- `append` answered an error and left the disk alone

@@ -4,15 +4,15 @@ use Rattle.rules.specs.declared.limits.TheConstants.{TEXT_BYTES}
 use Rattle.status_text.specs.Slot.{FileSlot}
 use Rattle.status.specs.Stored.{read_stored}
 use Rattle.journal.specs.File.{HeaderFits, framed, header, magic_of}
-use Rattle.journal.specs.declared.header.Version.{Version}
+use Rattle.journal.specs.declared.header.FormatVersion.{FormatVersion}
 use Rattle.journal.specs.History.{History, IsApplicable, IsFor, Reaches}
-use Rattle.journal.specs.Payload.{Recorded, Says}
+use Rattle.journal.specs.Payload.{RecordedStep, Says}
 use Rattle.journal.specs.declared.error.OpenError.{OpenError}
 use Rattle.journal.specs.declared.error.OpenError.TheVariants as error
 
 -- the bytes begin as a journal, and at least eight bytes follow
 pub record IsMarked (file : List ℕ) : Type 0 where
-  pub version : Version
+  pub version : FormatVersion
   pub rest : List ℕ
   pub enough : 8 ≤ length rest
   pub is : file ≡ magic_of version ++ rest
@@ -37,7 +37,7 @@ IsWithoutStart arch file = (named : Option (List ℕ)) (start rest : List ℕ) �
 -- at a gate there is nothing that can be read: it isn't closed, and no record stands behind it whose step can be taken
 pub record IsStuck (arch : List ℕ) (slots : List FileSlot) (rest : List ℕ) : Type 0 where
   pub not_closed : (tail : List ℕ) → ¬ (rest ≡ 0 ∷ tail)
-  pub no_step : (gate : ℕ) (payload tail : List ℕ) (recorded : Recorded) → length payload ≤ TEXT_BYTES
+  pub no_step : (gate : ℕ) (payload tail : List ℕ) (recorded : RecordedStep) → length payload ≤ TEXT_BYTES
       → rest ≡ gate ∷ framed payload ++ tail → Says payload recorded → ¬ IsApplicable arch recorded slots
 
 -- behind what stands for some history, at this offset, there is a gate at which nothing can be read

@@ -1,11 +1,11 @@
 -- The bytes of a journal (this project's own; docs/FORMATS.md has them as tables). Numbers are big-endian.
 use Rattle.std.specs.Prelude.{◌≡◌, ◌⊎◌, ℕ, ◌^◌, ◌<◌, List, [], ◌∷◌, ◌++◌, length, Option, Some, None, codes, ⊤}
 use Rattle.std.specs.Int.{w16, w32, w64, to_be_bytes}
-use Rattle.journal.specs.declared.header.Version.{Version}
-use Rattle.journal.specs.declared.header.Version.TheVariants.{One, Two}
+use Rattle.journal.specs.declared.header.FormatVersion.{FormatVersion}
+use Rattle.journal.specs.declared.header.FormatVersion.TheVariants.{One, Two}
 
 -- how a file of each version begins
-unfoldable pub magic_of : Version → List ℕ
+unfoldable pub magic_of : FormatVersion → List ℕ
 magic_of One = codes "DPJRNL01"
 magic_of Two = codes "DPJRNL02"
 

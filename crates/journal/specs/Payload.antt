@@ -8,7 +8,7 @@ use Rattle.rules.specs.declared.step.Step.{Step}
 use Rattle.rules.specs.declared.step.Step.TheVariants.{Unpack, Deconfigure, Configure, Remove, Purge}
 
 -- a step that was taken, and the text of the stanza that was handed in for it
-pub record Recorded : Type 0 where
+pub record RecordedStep : Type 0 where
   pub step : Step
   pub stanza : Option (List ℕ)
 
@@ -26,7 +26,7 @@ HasItsText (Purge name) None = ⊤
 HasItsText (Purge name) (Some text) = ⊥
 
 -- the first line of the payload, with its newline, is read as the step, and all behind it is the text of the stanza
-pub record Says (payload : List ℕ) (recorded : Recorded) : Type 0 where
+pub record Says (payload : List ℕ) (recorded : RecordedStep) : Type 0 where
   pub step : read_step (take_through NEWLINE payload) ≡ Ok recorded.step
   pub text : HasItsText recorded.step recorded.stanza
   pub behind : drop_through NEWLINE payload ≡ unwrap_or recorded.stanza []

@@ -7,7 +7,7 @@ use Rattle.journal.specs.File.{Entry, framed}
 use Rattle.journal.specs.Fault.{IsStuck, IsStuckAt}
 use Rattle.journal.specs.History.{IsApplicable, IsRecord, followed, slots_left}
 use Rattle.journal.specs.Ledger.{history_of}
-use Rattle.journal.specs.Payload.{Recorded}
+use Rattle.journal.specs.Payload.{RecordedStep}
 use Rattle.journal.specs.declared.error.OpenError.{OpenError}
 use Rattle.journal.specs.declared.error.OpenError.TheVariants as error
 use Rattle.journal.specs.declared.ledger.Ledger.{Ledger}
@@ -25,7 +25,7 @@ pub record IsTaken (rest : List ℕ) (old new : Store) (taken : Taken) : Type 0 
 -- a record stood there, and the journal remembers its step
 pub record IsPushed (old new : Ledger) (rest behind : List ℕ) : Type 0 where
   pub entry : Entry
-  pub recorded : Recorded
+  pub recorded : RecordedStep
   pub record_is : IsRecord entry recorded
   pub is : rest ≡ entry.0 ∷ framed entry.1 ++ behind
   pub applicable : IsApplicable old.database.arch recorded old.database.slots

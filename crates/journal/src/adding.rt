@@ -13,7 +13,7 @@ ghost use Rattle.journal.specs.declared.error.AppendError.TheVariants as append_
 
 use crate::commit::commit;
 use crate::error::AppendError;
-use crate::ledger::{Ledger, Recorded};
+use crate::ledger::{Ledger, RecordedStep};
 use crate::spare::WithSpare;
 use disk::Disk;
 use plantext::write_step;
@@ -26,10 +26,10 @@ const FILE_BYTES: usize = 1 << 60;
 
 /// All that is to be written and remembered of a step.
 #[derive(Drop)]
-pub struct Prepared<'a> {
+pub struct PreparedStep<'a> {
     bytes: Vec<u8>,
     len: usize,
-    recorded: Recorded<'a>,
+    recorded: RecordedStep<'a>,
     database: Database,
 }
 
@@ -45,7 +45,8 @@ fn text_for<'a>(step: &Step, given: Option<&'a [u8]>) -> Option<&'a [u8]>
 
 // The payload of a record of the step.
 fn payload_of(alloc: Global, step: &Step, text: Option<&[u8]>) -> Result<Vec<u8>, AllocError>
-    ensures bytes { IfOk result (λ payload. payload.items ≡ step_line step.now ++ unwrap_or (option_copied text.entry) []) }
+    ensures bytes { IfOk result
+        (λ payload. payload.items ≡ step_line step.now ++ unwrap_or (option_copied text.entry) []) }
     ensures line { OnOk result (IsReadAsStep step.now (step_line step.now)) }
 {
     let mut payload = write_step(alloc, step)?;
@@ -76,10 +77,12 @@ fn prepare<'a, 's>(
     old: &mut WithSpare,
     step: &'s Step,
     given: Option<&'a [u8]>,
-) -> Result<Prepared<'a>, AppendError<'s>>
+) -> Result<PreparedStep<'a>, AppendError<'s>>
     ensures unchanged { old.new ≡ old.old }
-    ensures prepared { IfOk result (IsPrepared old.old (recorded_of step.now (option_copied given.entry))) }
-    ensures fault { IfErr result (IsPrepareFault old.old (recorded_of step.now (option_copied given.entry))) }
+    ensures prepared { IfOk result
+        (IsPrepared old.old (recorded_of step.now (option_copied given.entry))) }
+    ensures fault { IfErr result
+        (IsPrepareFault old.old (recorded_of step.now (option_copied given.entry))) }
 {
     let text = text_for(step, given);
     let payload = payload_of(alloc, step, text)?;
@@ -87,9 +90,9 @@ fn prepare<'a, 's>(
         return Err(AppendError::TooLarge);
     }
     let bytes = record_of(alloc, &payload)?;
-    let recorded = Recorded::new(step.try_copy(alloc)?, text);
+    let recorded = RecordedStep::new(step.try_copy(alloc)?, text);
     let database = old.left_by(alloc, step, text)?;
-    Ok(Prepared {
+    Ok(PreparedStep {
         bytes,
         len: payload.len(),
         recorded,
@@ -110,16 +113,29 @@ pub fn append<'a, 's, D: Disk>(
 
     // A crash at any moment of the call leaves the history from before it, without the step or with it.
     ensures any_moment { D.honest disk.old → IsSettled ledger.old (D.facts disk.old)
-        → LeavesOnly (IsBeforeOrAfter (history_of ledger.old) (recorded_of step.now (option_copied stanza.entry))) (D.facts disk.old) (D.facts disk.new) }
-    ensures taken { OnOk result (IsApplicable ledger.old.database.arch (recorded_of step.now (option_copied stanza.entry)) ledger.old.database.slots) }
-    ensures follows { OnOk result (history_of ledger.new ≡ followed (history_of ledger.old) (recorded_of step.now (option_copied stanza.entry))) }
-    ensures settled { OnOk result (D.honest disk.old → IsSettled ledger.old (D.facts disk.old) → IsSettled ledger.new (D.facts disk.new)) }
+        → LeavesOnly (IsBeforeOrAfter (history_of ledger.old)
+        (recorded_of step.now (option_copied stanza.entry))) (D.facts disk.old)
+        (D.facts disk.new) }
+    ensures taken { OnOk result
+        (IsApplicable ledger.old.database.arch
+        (recorded_of step.now (option_copied stanza.entry)) ledger.old.database.slots) }
+    ensures follows { OnOk result
+        (history_of ledger.new
+        ≡ followed (history_of ledger.old)
+        (recorded_of step.now (option_copied stanza.entry))) }
+    ensures settled { OnOk result
+        (D.honest disk.old → IsSettled ledger.old (D.facts disk.old)
+        → IsSettled ledger.new (D.facts disk.new)) }
 
     // An error changes nothing that is remembered, and E20 alone what the disk holds.
-    ensures fault { IfErr result (IsAppendFault ledger.old (recorded_of step.now (option_copied stanza.entry))) }
+    ensures fault { IfErr result
+        (IsAppendFault ledger.old (recorded_of step.now (option_copied stanza.entry))) }
     ensures remembered { OnErr result (history_of ledger.new ≡ history_of ledger.old) }
-    ensures refused { IfErr result (λ e. e ≢ append_error.Disk → (disk.new ≡ disk.old) × (ledger.new.gate ≡ ledger.old.gate) × (ledger.new.broken ≡ ledger.old.broken)) }
-    ensures failed { IsErrOf result append_error.Disk → (ledger.new.broken ≡ true) × (D.faults disk.new ≡ min (D.faults disk.old + 1) (2 ^ 64 - 1)) }
+    ensures refused { IfErr result
+        (λ e. e ≢ append_error.Disk → (disk.new ≡ disk.old) × (ledger.new.gate ≡ ledger.old.gate)
+        × (ledger.new.broken ≡ ledger.old.broken)) }
+    ensures failed { IsErrOf result append_error.Disk → (ledger.new.broken ≡ true)
+        × (D.faults disk.new ≡ min (D.faults disk.old + 1) (2 ^ 64 - 1)) }
     ensures count { OnOk result (D.faults disk.new ≡ D.faults disk.old) }
     ensures reopen { IsTrue ledger.old.broken → IsErrOf result append_error.Reopen }
 {

@@ -19,9 +19,11 @@ fn take_both<'a, D: Disk>(
     first: &Step,
     second: &Step,
 ) -> Option<()>
-    ensures { IfSome result (λ _. D.honest disk.old → (file : List ℕ) → (D.facts disk.new).leaves file
+    ensures { IfSome result
+        (λ _. D.honest disk.old → (file : List ℕ) → (D.facts disk.new).leaves file
         → (h : History) × (h.arch ≡ arch.now) × (h.start ≡ start.now)
-        × (h.steps ≡ recorded_of first.now None ∷ recorded_of second.now None ∷ []) × Shows file h) }
+        × (h.steps ≡ recorded_of first.now None ∷ recorded_of second.now None ∷ [])
+        × Shows file h) }
 {
     let Ok(mut ledger) = create(alloc, disk, start, arch) else {
         return None;

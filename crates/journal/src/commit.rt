@@ -10,9 +10,12 @@ use disk::{Disk, Failed, keep, put, shorten};
 pub fn commit<D: Disk>(disk: &mut D, gate: usize, bytes: &[u8]) -> Result<(), Failed>
     requires { gate + 1 < 2 ^ 64 }
     ensures honest { D.honest disk.new ↔ D.honest disk.old }
-    ensures any_moment { D.honest disk.old → (front : List ℕ) → gate ≡ length front → Synced (front ++ 0 ∷ []) (D.facts disk.old)
+    ensures any_moment { D.honest disk.old → (front : List ℕ) → gate ≡ length front
+        → Synced (front ++ 0 ∷ []) (D.facts disk.old)
         → LeavesOnly (IsBetween front bytes.now) (D.facts disk.old) (D.facts disk.new) }
-    ensures done { OnOk result (D.honest disk.old → (front : List ℕ) → gate ≡ length front → Synced (front ++ 0 ∷ []) (D.facts disk.old)
+    ensures done { OnOk result
+        (D.honest disk.old → (front : List ℕ) → gate ≡ length front
+        → Synced (front ++ 0 ∷ []) (D.facts disk.old)
         → Synced (front ++ 1 ∷ bytes.now) (D.facts disk.new)) }
     ensures count { Counts result (D.faults disk.old) (D.faults disk.new) }
 {
@@ -27,9 +30,13 @@ pub fn commit<D: Disk>(disk: &mut D, gate: usize, bytes: &[u8]) -> Result<(), Fa
 /// might yet open is followed by what would count.
 pub fn settle<D: Disk>(disk: &mut D, end: usize, len: usize) -> Result<(), Failed>
     ensures honest { D.honest disk.new ↔ D.honest disk.old }
-    ensures any_moment { D.honest disk.old → (front tail : List ℕ) → end ≡ length front + 1 → (D.facts disk.old).seen ≡ front ++ 0 ∷ tail
-        → LeavesOnly (λ c. (D.facts disk.old).leaves c ⊎ HasFront front c) (D.facts disk.old) (D.facts disk.new) }
-    ensures done { OnOk result (D.honest disk.old → (front tail : List ℕ) → end ≡ length front + 1 → (D.facts disk.old).seen ≡ front ++ 0 ∷ tail
+    ensures any_moment { D.honest disk.old → (front tail : List ℕ) → end ≡ length front + 1
+        → (D.facts disk.old).seen ≡ front ++ 0 ∷ tail
+        → LeavesOnly (λ c. (D.facts disk.old).leaves c ⊎ HasFront front c) (D.facts disk.old)
+        (D.facts disk.new) }
+    ensures done { OnOk result
+        (D.honest disk.old → (front tail : List ℕ) → end ≡ length front + 1
+        → (D.facts disk.old).seen ≡ front ++ 0 ∷ tail
         → len ≡ length (front ++ 0 ∷ tail) → Synced (front ++ 0 ∷ []) (D.facts disk.new)) }
     ensures count { Counts result (D.faults disk.old) (D.faults disk.new) }
 {

@@ -96,10 +96,13 @@ pub fn create<'a, D: Disk>(
     ensures honest { D.honest disk.new ↔ D.honest disk.old }
     ensures made { IfOk result (IsCreated arch.now start.now) }
     ensures settled { IfOk result (λ l. D.honest disk.old → IsSettled l (D.facts disk.new)) }
-    ensures named { OnOk result (D.honest disk.old → Synced (header (Some arch.now) start.now ++ 0 ∷ []) (D.facts disk.new)) }
+    ensures named { OnOk result
+        (D.honest disk.old
+        → Synced (header (Some arch.now) start.now ++ 0 ∷ []) (D.facts disk.new)) }
     ensures fault { IfErr result (IsCreateFault arch.now start.now) }
     ensures refused { IfErr result (λ e. e ≢ create_error.Disk → disk.new ≡ disk.old) }
-    ensures failed { IsErrOf result create_error.Disk → D.faults disk.new ≡ min (D.faults disk.old + 1) (2 ^ 64 - 1) }
+    ensures failed { IsErrOf result create_error.Disk → D.faults disk.new
+        ≡ min (D.faults disk.old + 1) (2 ^ 64 - 1) }
     ensures count { OnOk result (D.faults disk.new ≡ D.faults disk.old) }
 {
     if start.len() > TEXT_BYTES {

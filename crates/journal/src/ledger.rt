@@ -10,27 +10,27 @@ use std::marker::Model;
 
 /// A step that was taken, and of an unpacking the text of the stanza that was handed in.
 #[derive(Drop)]
-pub struct Recorded<'a> {
+pub struct RecordedStep<'a> {
     step: Step,
     stanza: Option<&'a [u8]>,
 }
 
-impl<'a> Model for Recorded<'a> {
+impl<'a> Model for RecordedStep<'a> {
     ghost use Rattle.std.specs.Option.{option_copied};
-    ghost use Rattle.journal.specs.Payload.{Recorded as RecordedValue};
+    ghost use Rattle.journal.specs.Payload.{RecordedStep as RecordedStepValue};
 
-    ghost Value = { RecordedValue };
+    ghost Value = { RecordedStepValue };
 
     ghost view = { λ r. record { step = r.step; stanza = option_copied r.stanza } };
 }
 
-impl<'a> Recorded<'a> {
+impl<'a> RecordedStep<'a> {
     // This step with this text.
-    pub(crate) fn new(step: Step, stanza: Option<&'a [u8]>) -> Recorded<'a>
+    pub(crate) fn new(step: Step, stanza: Option<&'a [u8]>) -> RecordedStep<'a>
         ensures step { result.step ≡ step }
         ensures stanza { result.stanza ≡ option_copied stanza.entry }
     {
-        Recorded { step, stanza }
+        RecordedStep { step, stanza }
     }
 
     /// The step.
@@ -53,7 +53,7 @@ impl<'a> Recorded<'a> {
 #[derive(Drop)]
 pub struct Ledger<'a> {
     pub(crate) start: &'a [u8],
-    pub(crate) steps: Vec<Recorded<'a>>,
+    pub(crate) steps: Vec<RecordedStep<'a>>,
     pub(crate) database: WithSpare,
     /// The offset of the closed gate.
     pub(crate) gate: usize,
@@ -94,7 +94,7 @@ impl<'a> Ledger<'a> {
     }
 
     /// The steps since, in their order.
-    pub fn history(&self) -> &[Recorded<'a>]
+    pub fn history(&self) -> &[RecordedStep<'a>]
         ensures { result.now ≡ (history_of self.now).steps }
     {
         &self.steps

@@ -25,7 +25,7 @@ pub use laws::{
     a_file_shows_one_history, a_history_is_opened, a_run_of_calls_loses_nothing,
     no_acknowledged_step_is_lost, what_is_unmade_shows_nothing,
 };
-pub use ledger::{Ledger, Recorded};
+pub use ledger::{Ledger, RecordedStep};
 pub use opening::{open, read_all};
 pub use reading::read_journal;
 pub use rules::Step;

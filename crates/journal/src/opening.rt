@@ -17,11 +17,14 @@ use std::alloc::Global;
 /// All bytes of the file.
 pub fn read_all<D: Disk>(alloc: Global, disk: &mut D) -> Result<Vec<u8>, OpenError>
     ensures honest { D.honest disk.new ↔ D.honest disk.old }
-    ensures known { D.honest disk.old → IfOk result (λ bytes. bytes.items ≡ (D.facts disk.old).seen) }
+    ensures known { D.honest disk.old
+        → IfOk result (λ bytes. bytes.items ≡ (D.facts disk.old).seen) }
     ensures stays { D.honest disk.old → Stays (D.facts disk.old) (D.facts disk.new) }
     ensures causes { IfErr result (λ e. (e ≡ open_error.OutOfMemory) ⊎ (e ≡ open_error.Disk)) }
-    ensures failed { IsErrOf result open_error.Disk → D.faults disk.new ≡ min (D.faults disk.old + 1) (2 ^ 64 - 1) }
-    ensures refused { IfErr result (λ e. e ≢ open_error.Disk → D.faults disk.new ≡ D.faults disk.old) }
+    ensures failed { IsErrOf result open_error.Disk → D.faults disk.new
+        ≡ min (D.faults disk.old + 1) (2 ^ 64 - 1) }
+    ensures refused { IfErr result
+        (λ e. e ≢ open_error.Disk → D.faults disk.new ≡ D.faults disk.old) }
     ensures count { OnOk result (D.faults disk.new ≡ D.faults disk.old) }
 {
     let len = disk.len()?;
@@ -44,9 +47,13 @@ pub fn open<'a, D: Disk>(
 
     // A crash at any moment of the call leaves what a crash at its start could have left, or a file that means the same.
     ensures any_moment { D.honest disk.old → file.now ≡ (D.facts disk.old).seen
-        → LeavesOnly (MeansAsBefore arch.now (D.facts disk.old)) (D.facts disk.old) (D.facts disk.new) }
-    ensures settled { IfOk result (λ l. D.honest disk.old → file.now ≡ (D.facts disk.old).seen → IsSettled l (D.facts disk.new)) }
-    ensures failed { IsErrOf result open_error.Disk → D.faults disk.new ≡ min (D.faults disk.old + 1) (2 ^ 64 - 1) }
+        → LeavesOnly (MeansAsBefore arch.now (D.facts disk.old)) (D.facts disk.old)
+        (D.facts disk.new) }
+    ensures settled { IfOk result
+        (λ l. D.honest disk.old → file.now ≡ (D.facts disk.old).seen
+        → IsSettled l (D.facts disk.new)) }
+    ensures failed { IsErrOf result open_error.Disk → D.faults disk.new
+        ≡ min (D.faults disk.old + 1) (2 ^ 64 - 1) }
     ensures refused { IfErr result (λ e. e ≢ open_error.Disk → disk.new ≡ disk.old) }
     ensures count { OnOk result (D.faults disk.new ≡ D.faults disk.old) }
 {

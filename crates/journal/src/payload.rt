@@ -7,7 +7,7 @@ ghost use Rattle.journal.specs.Payload as Spec;
 ghost use Rattle.journal.specs.Payload.{HasItsText, Says};
 ghost use Rattle.plantext.specs.declared.cut.TheConstants.{NEWLINE};
 
-use crate::ledger::Recorded;
+use crate::ledger::RecordedStep;
 use plantext::{NEWLINE, PlanError, read_step};
 use rules::Step;
 use std::alloc::{AllocError, Global};
@@ -31,8 +31,10 @@ fn split_line(text: &[u8]) -> (&[u8], &[u8])
 
 // The text beside a step, where what is behind its line is one.
 fn text_beside<'a>(step: &Step, behind: &'a [u8]) -> Option<Option<&'a [u8]>>
-    ensures { MatchOption result ((text : _) → HasItsText step.now text → ¬ (behind.now ≡ unwrap_or text []))
-        (λ text. HasItsText step.now (option_copied text) × (behind.now ≡ unwrap_or (option_copied text) [])) }
+    ensures { MatchOption result
+        ((text : _) → HasItsText step.now text → ¬ (behind.now ≡ unwrap_or text []))
+        (λ text. HasItsText step.now (option_copied text)
+        × (behind.now ≡ unwrap_or (option_copied text) [])) }
 {
     match (step, behind) {
         (Step::Unpack(_, _), _) => Some(Some(behind)),
@@ -45,8 +47,10 @@ fn text_beside<'a>(step: &Step, behind: &'a [u8]) -> Option<Option<&'a [u8]>>
 pub fn read_payload<'a>(
     alloc: Global,
     payload: &'a [u8],
-) -> Result<Option<Recorded<'a>>, AllocError>
-    ensures { IfOk result (λ found. MatchOption found ((recorded : Spec.Recorded) → ¬ Says payload.now recorded) (Says payload.now)) }
+) -> Result<Option<RecordedStep<'a>>, AllocError>
+    ensures { IfOk result
+        (λ said. MatchOption said ((recorded : Spec.RecordedStep) → ¬ Says payload.now recorded)
+        (Says payload.now)) }
 {
     let (line, behind) = split_line(payload);
     let step = match read_step(alloc, line) {
@@ -55,7 +59,7 @@ pub fn read_payload<'a>(
         Err(PlanError::OutOfMemory) => return Err(AllocError),
     };
     match text_beside(&step, behind) {
-        Some(stanza) => Ok(Some(Recorded::new(step, stanza))),
+        Some(stanza) => Ok(Some(RecordedStep::new(step, stanza))),
         None => Ok(None),
     }
 }

@@ -13,7 +13,7 @@ ghost use Rattle.journal.specs.Reading.{IsNamedElse, IsPushed, IsPushFault, IsPu
 use crate::bytes::{cut_at, number_4};
 use crate::error::OpenError;
 use crate::header::{read_header, read_magic};
-use crate::ledger::{Ledger, Recorded};
+use crate::ledger::{Ledger, RecordedStep};
 use crate::payload::read_payload;
 use crate::spare::WithSpare;
 use rules::TEXT_BYTES;
@@ -25,7 +25,7 @@ use std::alloc::{AllocError, Global};
 pub struct Taken<'a> {
     gate: u8,
     len: usize,
-    recorded: Recorded<'a>,
+    recorded: RecordedStep<'a>,
     behind: &'a [u8],
 }
 
@@ -42,8 +42,10 @@ fn is_closed(rest: &[u8]) -> bool
 // The gate, the payload behind it, and what is behind that.
 fn split_record(rest: &[u8]) -> Option<(u8, &[u8], &[u8])>
     ensures { MatchOption result
-        ((gate : ℕ) (payload tail : List ℕ) → length payload ≤ TEXT_BYTES → ¬ (rest.now ≡ gate ∷ framed payload ++ tail))
-        (λ found. (length found.1.now ≤ TEXT_BYTES) × (rest.now ≡ found.0 ∷ framed found.1.now ++ found.2.now)) }
+        ((gate : ℕ) (payload tail : List ℕ) → length payload ≤ TEXT_BYTES
+        → ¬ (rest.now ≡ gate ∷ framed payload ++ tail))
+        (λ parts. (length parts.1.now ≤ TEXT_BYTES)
+        × (rest.now ≡ parts.0 ∷ framed parts.1.now ++ parts.2.now)) }
 {
     let [gate, behind @ ..] = rest else {
         return None;
@@ -60,11 +62,17 @@ fn split_record(rest: &[u8]) -> Option<(u8, &[u8], &[u8])>
 fn redo(
     alloc: Global,
     database: &mut WithSpare,
-    recorded: &Recorded<'_>,
+    recorded: &RecordedStep<'_>,
 ) -> Result<bool, AllocError>
-    ensures taken { IfOk result (λ done. IsTrue done → IsApplicable database.old.arch recorded.now database.old.slots
-        × (database.new ≡ record database.old { slots = slots_left database.old.arch recorded.now database.old.slots })) }
-    ensures not_taken { IfOk result (λ done. IsFalse done → ¬ IsApplicable database.old.arch recorded.now database.old.slots) }
+    ensures taken { IfOk result
+        (λ done. IsTrue done → IsApplicable database.old.arch recorded.now database.old.slots
+        × (database.new
+        ≡ record database.old {
+          slots = slots_left database.old.arch recorded.now
+              database.old.slots;
+        })) }
+    ensures not_taken { IfOk result
+        (λ done. IsFalse done → ¬ IsApplicable database.old.arch recorded.now database.old.slots) }
 {
     match database.apply(alloc, recorded.step(), recorded.stanza()) {
         Ok(()) => Ok(true),
@@ -80,7 +88,8 @@ fn take_record<'a>(
     rest: &'a [u8],
 ) -> Result<Option<Taken<'a>>, AllocError>
     requires { (tail : List ℕ) → ¬ (rest.now ≡ 0 ∷ tail) }
-    ensures { IfOk result (λ found. MatchOption found (IsStuck database.old.arch database.old.slots rest.now)
+    ensures { IfOk result
+        (λ taken. MatchOption taken (IsStuck database.old.arch database.old.slots rest.now)
         (IsTaken rest.now database.old database.new)) }
 {
     let Some((gate, payload, behind)) = split_record(rest) else {
@@ -127,9 +136,12 @@ fn push_records<'a>(
 ) -> Result<Ledger<'a>, OpenError>
     requires size { begun.gate + length records.now < 2 ^ 64 }
     requires whole { IsFalse begun.broken }
-    ensures read { IfOk result (λ ledger. (file : List ℕ) → Reaches file (history_of begun.entry) begun.entry.gate records.now
+    ensures read { IfOk result
+        (λ ledger. (file : List ℕ)
+        → Reaches file (history_of begun.entry) begun.entry.gate records.now
         → IsReadFrom begun.entry.database.arch file ledger) }
-    ensures fault { IfErr result (λ e. (file : List ℕ) → Reaches file (history_of begun.entry) begun.entry.gate records.now
+    ensures fault { IfErr result
+        (λ e. (file : List ℕ) → Reaches file (history_of begun.entry) begun.entry.gate records.now
         → IsPushedFault begun.entry.database.arch file e) }
 {
     let mut ledger = begun;

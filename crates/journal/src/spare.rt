@@ -60,9 +60,17 @@ impl WithSpare {
         taken: &'s Step,
         given: Option<&[u8]>,
     ) -> Result<(), ApplyError<'s>>
-        ensures taken { OnOk result (refused_name (handed_in self.old.arch (option_copied given.entry)) taken.now (slot_records self.old.slots) ≡ None) }
-        ensures left { OnOk result (self.new ≡ record self.old { slots = stored_after (handed_in self.old.arch (option_copied given.entry)) taken.now self.old.slots }) }
-        ensures err { IfErr result (λ e. IsApplyFault e (handed_in self.old.arch (option_copied given.entry)) taken.now self.old.slots) }
+        ensures taken { OnOk result
+            (refused_name (handed_in self.old.arch (option_copied given.entry)) taken.now
+            (slot_records self.old.slots) ≡ None) }
+        ensures left { OnOk result
+            (self.new ≡ record self.old {
+              slots = stored_after
+                  (handed_in self.old.arch (option_copied given.entry)) taken.now self.old.slots;
+            }) }
+        ensures err { IfErr result
+            (λ e. IsApplyFault e
+            (handed_in self.old.arch (option_copied given.entry)) taken.now self.old.slots) }
         ensures unchanged { OnErr result (self.new ≡ self.old) }
     {
         self.spare = None;
@@ -78,9 +86,15 @@ impl WithSpare {
         text: Option<&[u8]>,
     ) -> Result<Database, AppendError<'s>>
         ensures unchanged { self.new ≡ self.old }
-        ensures taken { OnOk result (IsApplicable self.old.arch (record { step = step.now; stanza = option_copied text.entry }) self.old.slots) }
-        ensures left { IfOk result (λ left. left ≡ store_left self.old (record { step = step.now; stanza = option_copied text.entry })) }
-        ensures fault { IfErr result (IsLeftFault self.old (record { step = step.now; stanza = option_copied text.entry })) }
+        ensures taken { OnOk result
+            (IsApplicable self.old.arch
+            (record { step = step.now; stanza = option_copied text.entry }) self.old.slots) }
+        ensures left { IfOk result
+            (λ left. left
+            ≡ store_left self.old
+            (record { step = step.now; stanza = option_copied text.entry })) }
+        ensures fault { IfErr result
+            (IsLeftFault self.old (record { step = step.now; stanza = option_copied text.entry })) }
     {
         let mut spare = match self.spare.take() {
             Some(spare) => spare,
@@ -102,7 +116,8 @@ impl WithSpare {
     /// Takes the database that the step leaves in place of this one, in which the step is taken once more: it is the spare from
     /// then on, unless memory is refused.
     pub fn exchange(&mut self, alloc: Global, left: Database, step: &Step, text: Option<&[u8]>)
-        requires { left ≡ store_left self.old (record { step = step.now; stanza = option_copied text }) }
+        requires { left
+            ≡ store_left self.old (record { step = step.now; stanza = option_copied text }) }
         ensures { self.new ≡ left }
     {
         let mut behind = mem::replace(&mut self.database, left);

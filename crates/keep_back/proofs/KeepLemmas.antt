@@ -31,9 +31,9 @@ use Rattle.keep_back.specs.declared.kept.Kept.{Kept}
 use Rattle.keep_back.specs.declared.left.Left.{Left}
 use Rattle.keep_back.specs.declared.round.SolvedRequest.{SolvedRequest}
 use Rattle.keep_back.proofs.MarkLemmas.{count-less, out-again, out-less, out-more, out-within}
-use Rattle.wishes.specs.Spelled.{AreReadBy, lines_in, spelled_out, stays_at}
-use Rattle.wishes.specs.Upgraded.{names_to_upgrade}
-use Rattle.wishes.specs.declared.wish.Wish.{Wish}
+use Rattle.request_lines.specs.Spelled.{AreReadBy, lines_in, spelled_out, stays_at}
+use Rattle.request_lines.specs.Upgraded.{names_to_upgrade}
+use Rattle.request_lines.specs.declared.wish.Wish.{Wish}
 use mathlib.Core.Logic.{inl, inr}
 
 -- A request that is refuted, or has no plan

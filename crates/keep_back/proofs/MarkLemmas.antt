@@ -4,7 +4,7 @@ use Rattle.std.specs.Prelude.{◌⊎◌}
 use Rattle.std.specs.List.{slice_index_or, slice_set}
 use Rattle.keep_back.specs.Back.{count_out}
 use Rattle.keep_back.specs.Further.{AllStay}
-use Rattle.wishes.specs.Spelled.{stays_at}
+use Rattle.request_lines.specs.Spelled.{stays_at}
 use mathlib.Core.Logic.{inl, inr}
 
 -- every line stays of as many marks that are all true

@@ -8,8 +8,8 @@ use Rattle.keep_back.specs.Round.{IsRequestWithoutPlan, IsSolvedRequest}
 use Rattle.keep_back.specs.declared.kept.Kept.{Kept}
 use Rattle.keep_back.specs.declared.left.Left.{Left}
 use Rattle.keep_back.specs.declared.round.SolvedRequest.{SolvedRequest}
-use Rattle.wishes.specs.Spelled.{lines_in, stays_at}
-use Rattle.wishes.specs.declared.wish.Wish.{Wish}
+use Rattle.request_lines.specs.Spelled.{lines_in, stays_at}
+use Rattle.request_lines.specs.declared.wish.Wish.{Wish}
 
 -- with the wish at this place beside what is left there is no plan
 abbrev pub IsAlone : Before → ℕ → List Wish → List Bool → ℕ → Type 0

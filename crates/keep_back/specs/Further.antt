@@ -13,9 +13,9 @@ use Rattle.keep_back.specs.Round.{IsRefutedRequest, IsSolvedRequest}
 use Rattle.keep_back.specs.declared.left.Left.{Left}
 use Rattle.keep_back.specs.declared.round.SolvedRequest.{SolvedRequest}
 use Rattle.solver.specs.declared.solved.Solved.{Solved}
-use Rattle.wishes.specs.Goals.{asks_for_more, only_goal}
-use Rattle.wishes.specs.Spelled.{goals_of, lines_in, stays_at}
-use Rattle.wishes.specs.declared.wish.Wish.{Wish}
+use Rattle.request_lines.specs.Goals.{asks_for_more, only_goal}
+use Rattle.request_lines.specs.Spelled.{goals_of, lines_in, stays_at}
+use Rattle.request_lines.specs.declared.wish.Wish.{Wish}
 
 -- the text of the request that is left
 abbrev pub request_of : Left → List ℕ

@@ -11,9 +11,9 @@ use Rattle.rules.specs.Universe.{Universe}
 use Rattle.solver.specs.Solved.{IsSolved}
 use Rattle.solver.specs.declared.solved.Solved.TheVariants as solved
 use Rattle.solver.specs.declared.solved.Undecided.{Undecided}
-use Rattle.wishes.specs.Goals.{AsksForMoreAt}
-use Rattle.wishes.specs.Spelled.{spelled_out, staying, stays_at, text_of}
-use Rattle.wishes.specs.Upgraded.{names_to_upgrade}
+use Rattle.request_lines.specs.Goals.{AsksForMoreAt}
+use Rattle.request_lines.specs.Spelled.{spelled_out, staying, stays_at, text_of}
+use Rattle.request_lines.specs.Upgraded.{names_to_upgrade}
 use Rattle.cli_engine.specs.Refuted.{AreRefuted}
 use Rattle.cli_engine.specs.Solution.{IsSolution}
 use Rattle.keep_back.specs.declared.keep_back.KeptBack.{KeptBack}

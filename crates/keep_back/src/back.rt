@@ -11,20 +11,20 @@ ghost use Rattle.keep_back.specs.Further.{IsFurther, IsFurtherRefusal, request_o
 ghost use Rattle.keep_back.specs.Reason.{has_no_plan};
 ghost use Rattle.keep_back.specs.Round.{IsSolvedRequest};
 ghost use Rattle.universe_parts.specs.Parts.{HaveDistinctNames};
-ghost use Rattle.wishes.specs.Spelled.{stays_at};
+ghost use Rattle.request_lines.specs.Spelled.{stays_at};
 
 use crate::kept::{show_left, solved_of};
 use crate::left::Left;
 use crate::note::{push_refuted, push_undecided};
 use crate::round::SolvedRequest;
 use inputs::{Before, Refusal, Shelf};
-use reasons::{core, sentences};
 use refutation::Refutation;
+use refutation_sentences::{core, sentences};
 use refutecheck::Premises;
+use request_lines::Wish;
 use solver::Solved;
 use std::alloc::{AllocError, Global};
 use universe_build::Listing;
-use wishes::Wish;
 
 // Tells why the wish is left out of the request that this refutation refutes.
 fn tell_refuted(
@@ -90,7 +90,8 @@ fn try_at<'i, 'a>(
     requires within { place < length left.old.wishes.items }
     requires out { stays_at left.old.stays.items place ≡ false }
     ensures tried { IfOk result (IsTried before.now limit place left.old left.new) }
-    ensures refused { (texts : Texts) → AreReadAs texts before.now → IfErr result (IsFurtherRefusal before.now texts left.old) }
+    ensures refused { (texts : Texts) → AreReadAs texts before.now
+        → IfErr result (IsFurtherRefusal before.now texts left.old) }
     ensures known { IfErr result (λ refused. refused.fault ≢ fault.Read) }
 {
     left.mark(place, true);
@@ -116,9 +117,12 @@ fn pass<'i, 'a, S: Shelf>(
     requires listed { IsListed before.now listing.now }
     requires long { length left.old.stays.items ≡ length left.old.wishes.items }
     requires solved { IsSolvedRequest before.now limit (request_of left.old) answer.old }
-    ensures left { IfOk result (IsPass before.now limit (length left.old.wishes.items) left.old left.new) }
-    ensures solved { IfOk result (λ _. IsSolvedRequest before.now limit (request_of left.new) answer.new) }
-    ensures refused { (texts : Texts) → AreReadAs texts before.now → IfErr result (IsFurtherRefusal before.now texts left.old) }
+    ensures left { IfOk result
+        (IsPass before.now limit (length left.old.wishes.items) left.old left.new) }
+    ensures solved { IfOk result
+        (λ _. IsSolvedRequest before.now limit (request_of left.new) answer.new) }
+    ensures refused { (texts : Texts) → AreReadAs texts before.now
+        → IfErr result (IsFurtherRefusal before.now texts left.old) }
     ensures known { IfErr result (λ refused. refused.fault ≢ fault.Read) }
     ensures untouched { IsUntouched S.Shelf shelf.old shelf.new }
 {
@@ -151,9 +155,12 @@ pub(crate) fn put_back<'i, 'a, S: Shelf>(
     requires long { length left.old.stays.items ≡ length left.old.wishes.items }
     requires solved { IsSolvedRequest before.now limit (request_of left.old) answer.old }
     ensures left { IfOk result (λ _. IsFurther before.now left.old left.new) }
-    ensures alone { IfOk result (λ _. AreAlone before.now limit left.new.wishes.items left.new.stays.items) }
-    ensures solved { IfOk result (λ _. IsSolvedRequest before.now limit (request_of left.new) answer.new) }
-    ensures refused { (texts : Texts) → AreReadAs texts before.now → IfErr result (IsFurtherRefusal before.now texts left.old) }
+    ensures alone { IfOk result
+        (λ _. AreAlone before.now limit left.new.wishes.items left.new.stays.items) }
+    ensures solved { IfOk result
+        (λ _. IsSolvedRequest before.now limit (request_of left.new) answer.new) }
+    ensures refused { (texts : Texts) → AreReadAs texts before.now
+        → IfErr result (IsFurtherRefusal before.now texts left.old) }
     ensures known { IfErr result (λ refused. refused.fault ≢ fault.Read) }
     ensures untouched { IsUntouched S.Shelf shelf.old shelf.new }
 {

@@ -4,10 +4,10 @@ use debversion::Version;
 use refutation::Premise;
 use refutecheck::{Premises, clause_of};
 use relation::{Clause, Pkg};
+use request_lines::Wish;
 use rules::Goal;
 use std::alloc::AllocError;
 use universe::{Start, Universe};
-use wishes::Wish;
 
 /// How little a wish is wanted: first whether it is about a held name, then how few of the other wishes stand on its candidate, and then
 /// how many packages stand in its way.
@@ -15,7 +15,7 @@ use wishes::Wish;
 pub(crate) struct Cost {
     is_held: bool,
     standing_on: usize,
-    in_the_way: usize,
+    conflicting: usize,
 }
 
 impl Cost {
@@ -26,7 +26,7 @@ impl Cost {
         } else if self.standing_on != other.standing_on {
             self.standing_on < other.standing_on
         } else {
-            self.in_the_way >= other.in_the_way
+            self.conflicting >= other.conflicting
         }
     }
 }
@@ -67,7 +67,7 @@ fn strikes(premises: &Premises<'_, '_, '_>, number: u32, other: u32) -> Result<b
 }
 
 // Whether the package stands and can't stay so beside the pair.
-fn is_in_the_way(
+fn is_conflicting(
     premises: &Premises<'_, '_, '_>,
     universe: &Universe<'_, '_>,
     number: u32,
@@ -83,7 +83,7 @@ fn is_in_the_way(
 }
 
 // How many packages stand and can't stay so beside the candidate of the name.
-fn count_in_the_way(
+fn count_conflicting(
     premises: &Premises<'_, '_, '_>,
     universe: &Universe<'_, '_>,
     name: &[u8],
@@ -93,7 +93,7 @@ fn count_in_the_way(
     };
     let mut count = 0usize;
     for start in universe.starts() {
-        if is_in_the_way(premises, universe, number, start)? {
+        if is_conflicting(premises, universe, number, start)? {
             count = count.saturating_add(1);
         }
     }
@@ -162,12 +162,12 @@ pub(crate) fn cost_of(
         None => Ok(Cost {
             is_held: false,
             standing_on: 0,
-            in_the_way: 0,
+            conflicting: 0,
         }),
         Some(name) => Ok(Cost {
             is_held: is_held(universe, name),
             standing_on: count_standing_on(premises, universe, wishes, name)?,
-            in_the_way: count_in_the_way(premises, universe, name)?,
+            conflicting: count_conflicting(premises, universe, name)?,
         }),
     }
 }

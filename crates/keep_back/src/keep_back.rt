@@ -15,9 +15,10 @@ ghost use Rattle.keep_back.specs.KeptBack.{IsSaidOfKept};
 
 use crate::kept::{Kept, kept_of};
 use crate::round::SolvedRequest;
-use cli_engine::{Answered, Notes, answered, tell_refused, tell_solved};
+use cli_engine::{Answered, Notes, answer_of_solved, tell_refused, tell_solved};
 use inputs::{
-    Before, Input, Part, Progress, Question, Refusal, Requested, Shelf, read_part, requested_in,
+    Before, Input, Progress, Question, Refusal, Requested, Shelf, WholeText, read_part,
+    requested_in,
 };
 use rules::Items;
 use std::alloc::{AllocError, Global};
@@ -61,9 +62,11 @@ fn requested_telling<'i, 'a>(
     notes: &mut Notes,
 ) -> Result<Requested<'i, 'a>, Refusal>
     ensures asked { (texts : Texts) → AreReadAs texts before.now → IfOk result (λ requested.
-        DenotesAsked (asking text.now texts) requested.universe (start_of before.now) requested.asks_all_versions) }
+        DenotesAsked (asking text.now texts) requested.universe
+        (start_of before.now) requested.asks_all_versions) }
     ensures over { IfOk result (λ requested. IsOver before.now requested.universe) }
-    ensures refused { (texts : Texts) → AreReadAs texts before.now → IfErr result (IsRefusal (asking text.now texts)) }
+    ensures refused { (texts : Texts) → AreReadAs texts before.now
+        → IfErr result (IsRefusal (asking text.now texts)) }
     ensures known { IfErr result (λ refused. refused.fault ≢ fault.Read) }
     ensures unasked { notes.old.wanted ≡ false → notes.new ≡ notes.old }
 {
@@ -81,12 +84,17 @@ fn tell_kept<'a>(
     notes: &mut Notes,
 ) -> Result<KeptBack, AllocError>
     requires over { IsOver before.now kept.solved.requested.universe }
-    requires good { IsGoodIfPlan kept.solved.requested.universe (start_of before.now) kept.solved.solved }
-    ensures solved { IfOk result (λ kept_back. kept_back.answered.solved ≡ kept.entry.solved.solved) }
-    ensures asks { IfOk result (λ kept_back. kept_back.answered.asks_all_versions ≡ kept.entry.solved.requested.asks_all_versions) }
+    requires good { IsGoodIfPlan kept.solved.requested.universe
+        (start_of before.now) kept.solved.solved }
+    ensures solved { IfOk result
+        (λ kept_back. kept_back.answered.solved ≡ kept.entry.solved.solved) }
+    ensures asks { IfOk result
+        (λ kept_back. kept_back.answered.asks_all_versions
+        ≡ kept.entry.solved.requested.asks_all_versions) }
     ensures naming { IfOk result (λ kept_back. kept_back.answered.naming ≡ None) }
     ensures lines { IfOk result (λ kept_back.
-        HasSolvedLines kept.entry.solved.requested.universe kept_back.answered.solved kept_back.answered.members) }
+        HasSolvedLines kept.entry.solved.requested.universe kept_back.answered.solved
+        kept_back.answered.members) }
     ensures request { IfOk result (λ kept_back. kept_back.request ≡ kept.entry.request.items) }
     ensures stays { IfOk result (λ kept_back. kept_back.stays ≡ kept.entry.stays) }
     ensures unasked { notes.old.wanted ≡ false → notes.new ≡ notes.old }
@@ -98,7 +106,7 @@ fn tell_kept<'a>(
         reasons,
     } = kept;
     let SolvedRequest { requested, solved } = solved;
-    let answer = answered(
+    let answer = answer_of_solved(
         alloc,
         &requested.universe,
         solved,
@@ -126,7 +134,8 @@ pub fn keep<S: Shelf>(
     has_document: bool,
     notes: &mut Notes,
 ) -> Result<KeptBack, Refusal>
-    ensures said { (texts : Texts) → AreReadAs texts before.now → texts.request ≡ Some text.items → IsSaidOfKept texts limit result }
+    ensures said { (texts : Texts) → AreReadAs texts before.now → texts.request ≡ Some text.items
+        → IsSaidOfKept texts limit result }
     ensures known { IfErr result (λ refused. refused.fault ≢ fault.Read) }
     ensures unasked { notes.old.wanted ≡ false → notes.new ≡ notes.old }
     ensures untouched { IsUntouched S.Shelf shelf.old shelf.new }
@@ -154,7 +163,7 @@ impl Question for KeepBack {
         before: &Before<'_, '_, '_, '_, '_, '_, '_, '_>,
         notes: &mut Notes,
     ) -> Result<KeptBack, Refusal> {
-        let text = read_part(alloc, shelf, Part::Request, Input::Request)?;
+        let text = read_part(alloc, shelf, WholeText::Request, Input::Request)?;
         let kept_back = keep(
             alloc,
             shelf,

@@ -17,11 +17,11 @@ use crate::left::Left;
 use crate::note::push_counts;
 use crate::round::{SolvedRequest, solved_in};
 use inputs::{Before, Progress, Refusal, Requested, Shelf, listed_in, requested_in};
+use request_lines::{Wish, wishes_of};
 use rules::Items;
 use solver::Solved;
 use std::alloc::{AllocError, Global};
 use universe_build::Listing;
-use wishes::{Wish, wishes_of};
 
 /// What is left of a request, and what is answered to it.
 #[derive(Drop)]
@@ -46,7 +46,8 @@ pub(crate) fn solved_of<'i, 'a>(
 ) -> Result<SolvedRequest<'i, 'a>, Refusal>
     requires listed { IsListed before.now listing.now }
     ensures solved { IfOk result (IsSolvedRequest before.now limit (request_of left.now)) }
-    ensures refused { (texts : Texts) → AreReadAs texts before.now → IfErr result (IsRefusedWith texts (request_of left.now)) }
+    ensures refused { (texts : Texts) → AreReadAs texts before.now
+        → IfErr result (IsRefusedWith texts (request_of left.now)) }
     ensures known { IfErr result (λ refused. refused.fault ≢ fault.Read) }
 {
     let text = left.request(alloc)?;
@@ -92,7 +93,8 @@ fn step<'i, 'a>(
     requires listed { IsListed before.now listing.now }
     requires long { length left.old.stays.items ≡ length left.old.wishes.items }
     ensures left { IfOk result (IsStep before.now limit left.old left.new) }
-    ensures refused { (texts : Texts) → AreReadAs texts before.now → IfErr result (IsRefusedWith texts (request_of left.old)) }
+    ensures refused { (texts : Texts) → AreReadAs texts before.now
+        → IfErr result (IsRefusedWith texts (request_of left.old)) }
     ensures known { IfErr result (λ refused. refused.fault ≢ fault.Read) }
 {
     let solved = solved_of(alloc, before, listing, left, limit)?;
@@ -125,7 +127,8 @@ fn rounds<'i, 'a, S: Shelf>(
     requires long { length left.old.stays.items ≡ length left.old.wishes.items }
     ensures left { IfOk result (λ _. IsFurther before.now left.old left.new) }
     ensures solved { IfOk result (IsSolvedRequest before.now limit (request_of left.new)) }
-    ensures refused { (texts : Texts) → AreReadAs texts before.now → IfErr result (IsFurtherRefusal before.now texts left.old) }
+    ensures refused { (texts : Texts) → AreReadAs texts before.now
+        → IfErr result (IsFurtherRefusal before.now texts left.old) }
     ensures known { IfErr result (λ refused. refused.fault ≢ fault.Read) }
     ensures untouched { IsUntouched S.Shelf shelf.old shelf.new }
 {
@@ -185,8 +188,10 @@ fn keep_rest<'i, 'a, S: Shelf>(
     limit: u32,
 ) -> Result<Kept<'i, 'a>, Refusal>
     ensures left { IfOk result (IsRestKept before.now limit wishes.items) }
-    ensures solved { IfOk result (λ kept. IsSolvedRequest before.now limit kept.request.items kept.solved) }
-    ensures refused { (texts : Texts) → AreReadAs texts before.now → IfErr result (IsRestRefusal before.now texts wishes.items) }
+    ensures solved { IfOk result
+        (λ kept. IsSolvedRequest before.now limit kept.request.items kept.solved) }
+    ensures refused { (texts : Texts) → AreReadAs texts before.now
+        → IfErr result (IsRestRefusal before.now texts wishes.items) }
     ensures known { IfErr result (λ refused. refused.fault ≢ fault.Read) }
     ensures untouched { IsUntouched S.Shelf shelf.old shelf.new }
 {
@@ -221,7 +226,8 @@ pub(crate) fn kept_of<'i, 'a, S: Shelf>(
     requires asked { IsRequestedBy before.now text.items requested }
     ensures left { (texts : Texts) → AreReadAs texts before.now → texts.request ≡ Some text.items
         → IfOk result (λ kept. IsLeft texts limit kept.stays kept.request.items) }
-    ensures solved { IfOk result (λ kept. IsSolvedRequest before.now limit kept.request.items kept.solved) }
+    ensures solved { IfOk result
+        (λ kept. IsSolvedRequest before.now limit kept.request.items kept.solved) }
     ensures refused { (texts : Texts) → AreReadAs texts before.now → texts.request ≡ Some text.items
         → IfErr result (IsKeptRefusal texts) }
     ensures known { IfErr result (λ refused. refused.fault ≢ fault.Read) }

@@ -5,12 +5,12 @@ ghost use Rattle.universe_parts.specs.Parts.{HaveDistinctNames};
 
 use crate::cost::{Cost, cost_of};
 use crate::named::{is_named, is_same_goal};
-use reasons::core;
 use refutation::{Premise, Refutation};
+use refutation_sentences::core;
 use refutecheck::{Premises, clause_of};
+use request_lines::Wish;
 use std::alloc::{AllocError, Global};
 use universe::Universe;
-use wishes::Wish;
 
 // The place that is wanted least of the one so far and the one with this cost.
 fn lesser(so_far: Option<(usize, Cost)>, place: usize, cost: Cost) -> (usize, Cost) {
@@ -98,7 +98,7 @@ fn hopeless(
 /// The places of the wishes that are left out of the request that this refutation refutes: those that nothing admitted fulfils; or where
 /// there are none the one that is wanted least of those that stay and that a core of the refutation names. Of these a wish about a held
 /// name comes first, then the one that the candidates of the fewest others need, then the one beside whose candidate most packages that
-/// stand can't stay so, and of two such the later one. It costs what `reasons::core` costs, and for each wish that is named a look at
+/// stand can't stay so, and of two such the later one. It costs what `refutation_sentences::core` costs, and for each wish that is named a look at
 /// each other one, and two conflicts and two breaks looked for at each package that stands. Memory alone can fail.
 pub(crate) fn to_leave_out(
     alloc: Global,

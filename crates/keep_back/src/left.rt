@@ -3,11 +3,11 @@
 ghost use Rattle.std.specs.Prelude.{◌≡◌, ◌<◌, IfOk, length};
 ghost use Rattle.std.specs.List.{slice_set};
 ghost use Rattle.keep_back.specs.Further.{AllStay, IsFewerBy, request_of};
-ghost use Rattle.wishes.specs.Spelled.{stays_at};
+ghost use Rattle.request_lines.specs.Spelled.{stays_at};
 
 use crate::note::count_goals;
+use request_lines::{Wish, text_of};
 use std::alloc::{AllocError, Global};
-use wishes::{Wish, text_of};
 
 /// The wishes of a request, and which of them stay.
 #[derive(Drop)]

@@ -2,9 +2,9 @@
 
 use refutation::{Line, Premise, Refutation};
 use refutecheck::Premises;
+use request_lines::Wish;
 use rules::{Goal, Name, Restriction};
 use universe::Pair;
-use wishes::Wish;
 
 fn is_same_name(name: &Name, other: &Name) -> bool {
     name.as_bytes() == other.as_bytes()

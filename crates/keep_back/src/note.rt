@@ -1,8 +1,8 @@
 // What is told of a goal that is left out.
 
 use itoa::Buffer;
+use request_lines::Wish;
 use std::alloc::AllocError;
-use wishes::Wish;
 
 fn push_count(text: &mut Vec<u8>, count: usize) -> Result<(), AllocError> {
     let mut buffer = Buffer::new();

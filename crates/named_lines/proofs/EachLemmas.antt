@@ -16,16 +16,16 @@ use Rattle.named_lines.specs.declared.numbering.NumberedLines.{NumberedLines}
 abbrev pub some_behind : {B : Type 0} → List B → Option (List B) → Option (List B)
 some_behind so_far given = option_map (λ rest. so_far ++ rest) given
 
-some_put : {B : Type 0} (so_far : List B) (found : B) (given : Option (List B))
-    → some_behind (so_far ++ found ∷ []) given ≡ some_behind so_far (option_map (λ rest. found ∷ rest) given)
-some_put so_far found None = refl
-some_put {B} so_far found (Some rest) = ap (λ (all : List B). Some all) (append_assoc so_far (found ∷ []) rest)
+some_put : {B : Type 0} (so_far : List B) (value : B) (given : Option (List B))
+    → some_behind (so_far ++ value ∷ []) given ≡ some_behind so_far (option_map (λ rest. value ∷ rest) given)
+some_put so_far value None = refl
+some_put {B} so_far value (Some rest) = ap (λ (all : List B). Some all) (append_assoc so_far (value ∷ []) rest)
 
 -- one more item gives something
-pub some_more : {A B : Type 0} (give : A → Option B) (so_far : List B) (item : A) (found : B) (items later : List A) → items ≡ item ∷ later
-    → give item ≡ Some found → some_behind (so_far ++ found ∷ []) (each_some give later) ≡ some_behind so_far (each_some give items)
-some_more give so_far item found items later first is =
-    some_put so_far found (each_some give later) ∙ sym (ap (λ all. some_behind so_far (each_some give all)) first ∙ rw is refl)
+pub some_more : {A B : Type 0} (give : A → Option B) (so_far : List B) (item : A) (value : B) (items later : List A) → items ≡ item ∷ later
+    → give item ≡ Some value → some_behind (so_far ++ value ∷ []) (each_some give later) ≡ some_behind so_far (each_some give items)
+some_more give so_far item value items later first is =
+    some_put so_far value (each_some give later) ∙ sym (ap (λ all. some_behind so_far (each_some give all)) first ∙ rw is refl)
 
 -- an item gives nothing, and so all give nothing
 pub some_none : {A B : Type 0} (give : A → Option B) (so_far : List B) (item : A) (items later : List A) → items ≡ item ∷ later
@@ -43,16 +43,16 @@ some_all {A} {B} give so_far items none =
 abbrev pub ok_behind : {B : Type 0} → List B → Result (List B) NamedPair → Result (List B) NamedPair
 ok_behind so_far given = made (λ rest. so_far ++ rest) given
 
-ok_put : {B : Type 0} (so_far : List B) (found : B) (given : Result (List B) NamedPair)
-    → ok_behind (so_far ++ found ∷ []) given ≡ ok_behind so_far (made (λ rest. found ∷ rest) given)
-ok_put so_far found (Err missing) = refl
-ok_put {B} so_far found (Ok rest) = ap (λ (all : List B). Ok all) (append_assoc so_far (found ∷ []) rest)
+ok_put : {B : Type 0} (so_far : List B) (value : B) (given : Result (List B) NamedPair)
+    → ok_behind (so_far ++ value ∷ []) given ≡ ok_behind so_far (made (λ rest. value ∷ rest) given)
+ok_put so_far value (Err missing) = refl
+ok_put {B} so_far value (Ok rest) = ap (λ (all : List B). Ok all) (append_assoc so_far (value ∷ []) rest)
 
 -- one more item gives something
-pub ok_more : {A B : Type 0} (give : A → Result B NamedPair) (so_far : List B) (item : A) (found : B) (items later : List A) → items ≡ item ∷ later
-    → give item ≡ Ok found → ok_behind (so_far ++ found ∷ []) (each_ok give later) ≡ ok_behind so_far (each_ok give items)
-ok_more give so_far item found items later first is =
-    ok_put so_far found (each_ok give later) ∙ sym (ap (λ all. ok_behind so_far (each_ok give all)) first ∙ rw is refl)
+pub ok_more : {A B : Type 0} (give : A → Result B NamedPair) (so_far : List B) (item : A) (value : B) (items later : List A) → items ≡ item ∷ later
+    → give item ≡ Ok value → ok_behind (so_far ++ value ∷ []) (each_ok give later) ≡ ok_behind so_far (each_ok give items)
+ok_more give so_far item value items later first is =
+    ok_put so_far value (each_ok give later) ∙ sym (ap (λ all. ok_behind so_far (each_ok give all)) first ∙ rw is refl)
 
 -- a pair of an item is missing, and so all give that
 pub ok_missing : {A B : Type 0} (give : A → Result B NamedPair) (so_far : List B) (item : A) (missing : NamedPair) (items later : List A) → items ≡ item ∷ later
@@ -75,12 +75,12 @@ abbrev pub stopped_at : List Line → Option Missing → NumberedLines
 stopped_at lines missing = record { lines = lines; missing = missing }
 
 -- one more line is numbered
-pub line_more : (pairs : List Pair) (so_far : List Line) (number : ℕ) (item : NamedLine) (found : Line) (items later : List NamedLine) → items ≡ item ∷ later
-    → line_numbered pairs item ≡ Ok found
-    → lines_behind (so_far ++ found ∷ []) (numbered_from pairs (number + 1) later) ≡ lines_behind so_far (numbered_from pairs number items)
-line_more pairs so_far number item found items later first is =
+pub line_more : (pairs : List Pair) (so_far : List Line) (number : ℕ) (item : NamedLine) (line : Line) (items later : List NamedLine) → items ≡ item ∷ later
+    → line_numbered pairs item ≡ Ok line
+    → lines_behind (so_far ++ line ∷ []) (numbered_from pairs (number + 1) later) ≡ lines_behind so_far (numbered_from pairs number items)
+line_more pairs so_far number item line items later first is =
     let behind = numbered_from pairs (number + 1) later in
-    ap (λ (lines : List Line). stopped_at lines behind.missing) (append_assoc so_far (found ∷ []) behind.lines)
+    ap (λ (lines : List Line). stopped_at lines behind.missing) (append_assoc so_far (line ∷ []) behind.lines)
     ∙ sym (ap (λ (all : List NamedLine). lines_behind so_far (numbered_from pairs number all)) first
     ∙ ap (λ (read : Result Line NamedPair). lines_behind so_far (put_numbered number read behind)) is)
 

@@ -9,7 +9,7 @@ use Rattle.refutecheck.specs.declared.verdict.Verdict.{Verdict}
 use Rattle.refutecheck.specs.declared.verdict.Verdict.TheVariants.{Yes, No}
 use Rattle.named_refutation.specs.declared.named.NamedLine.{NamedLine}
 use Rattle.named_refutation.specs.declared.named.NamedPair.{NamedPair}
-use Rattle.named_lines.specs.Judged.{AreAccepted, IsFirstBadBehind, IsVerdictOn, stopped}
+use Rattle.named_lines.specs.Judged.{AreAccepted, IsFirstBadBehind, IsVerdictOn, verdict_at}
 use Rattle.named_lines.specs.Numbering.{line_numbered, numbered_from, numbered_lines, put_numbered}
 use Rattle.named_lines.specs.declared.numbering.Missing.{Missing}
 use Rattle.named_lines.specs.declared.numbering.NumberedLines.{NumberedLines}
@@ -18,7 +18,7 @@ use Rattle.named_lines.specs.declared.numbering.NumberedLines.{NumberedLines}
 missing_behind : (pairs : List Pair) (number : ℕ) (lines : List NamedLine) (missing : Missing) → (numbered_from pairs number lines).missing ≡ Some missing
     → missing.line ≡ length (numbered_from pairs number lines).lines + number
 missing_behind pairs number [] missing h = cc
-missing_behind pairs number (found ∷ later) missing h = go (line_numbered pairs found) (missing_behind pairs (number + 1) later missing) h where
+missing_behind pairs number (line ∷ later) missing h = go (line_numbered pairs line) (missing_behind pairs (number + 1) later missing) h where
   of : NamedPair → Missing
   of pair = record { line = number; pair = pair }
 
@@ -47,12 +47,12 @@ whole_verdict u numbered (No number) none is = subst (λ (missing : Option Missi
 
 -- where a pair is missing, the verdict is no
 pub stopped_verdict : (u : Universe) (numbered : NumberedLines) (missing : Missing) (judged : Verdict) → numbered.missing ≡ Some missing
-    → missing.line ≡ length numbered.lines + 1 → IsVerdict u numbered.lines judged → IsVerdictOn u numbered (stopped missing.line judged)
+    → missing.line ≡ length numbered.lines + 1 → IsVerdict u numbered.lines judged → IsVerdictOn u numbered (verdict_at missing.line judged)
 unfolding IsFirstBad
 stopped_verdict u numbered missing Yes some line is =
-    subst (λ (found : Option Missing). IsFirstBadBehind u numbered.lines found missing.line) (sym some) (inr (is.good, refl))
+    subst (λ (one : Option Missing). IsFirstBadBehind u numbered.lines one missing.line) (sym some) (inr (is.good, refl))
 stopped_verdict u numbered missing (No number) some line is =
-    subst (λ (found : Option Missing). IsFirstBadBehind u numbered.lines found number) (sym some) (elim is [
+    subst (λ (one : Option Missing). IsFirstBadBehind u numbered.lines one number) (sym some) (elim is [
       | inl first ↦ inl first
       | inr unfinished ↦ inr (unfinished.good, unfinished.number_is ∙ sym line)
     ])
@@ -62,7 +62,7 @@ pub accepted_yes : (u : Universe) (numbered : NumberedLines) (judged : Verdict) 
 accepted_yes u numbered Yes one is accepted = refl
 accepted_yes u numbered (No number) one is accepted = absurd ((one u numbered.lines number is).0 accepted.accepted)
 
-pub stopped_refutes : (u : Universe) (line : ℕ) (judged : Verdict) → Refutes u (stopped line judged)
+pub stopped_refutes : (u : Universe) (line : ℕ) (judged : Verdict) → Refutes u (verdict_at line judged)
 stopped_refutes u line Yes = tt
 stopped_refutes u line (No number) = tt
 

@@ -21,11 +21,11 @@ position_inside p xs i e = grind (arith, common_steps)
 -- a number that is found is at most that of the pairs
 pub number_within : (pairs : List Pair) (name version : List ℕ) (number : ℕ) → number_among pairs name version ≡ Some number → number ≤ length pairs
 number_within pairs name version number h = go (place_among pairs name version) refl h where
-  go : (place : Option ℕ) → place_among pairs name version ≡ place → option_map (λ found. found + 1) place ≡ Some number → number ≤ length pairs
+  go : (place : Option ℕ) → place_among pairs name version ≡ place → option_map (λ index. index + 1) place ≡ Some number → number ≤ length pairs
   go None e g = cc
-  go (Some found) e g =
-      let same : found + 1 ≡ number = cc in
-      let inside : found < length pairs = position_inside (λ (pair : Pair). is_of name version pair.pkg) pairs found e in
+  go (Some index) e g =
+      let same : index + 1 ≡ number = cc in
+      let inside : index < length pairs = position_inside (λ (pair : Pair). is_of name version pair.pkg) pairs index e in
       omega arith
 
 got_is : {X : Type 0} (xs : List X) (i : ℕ) (x : X) → slice_get xs i ≡ Some x → (d : X) → get_or xs i d ≡ x
@@ -39,7 +39,7 @@ number_again pairs (suc place) pair ascending h =
     let inside : place < length pairs = slice_get_within pairs place pair h in
     let ties : (d : Pair) → pkg_order (get_or pairs place d).pkg pair.pkg.name pair.pkg.version ≡ Equal = λ d. rw (got_is pairs place pair h d) (tied pair.pkg) in
     let one : place + 1 ≡ suc place = omega arith in
-    ap (option_map (λ found. found + 1)) (sym (searched_place pairs pair.pkg.name pair.pkg.version place ascending inside ties))
+    ap (option_map (λ index. index + 1)) (sym (searched_place pairs pair.pkg.name pair.pkg.version place ascending inside ties))
     ∙ ap (λ n. Some n) one where
       tied : (pkg : Pkg) → pkg_order pkg pkg.name pkg.version ≡ Equal
       tied pkg = (Equal-is (pkg_order pkg pkg.name pkg.version)).0 (pkg_order-ties pkg.name pkg.version pkg ∙ is_of-from pkg.name pkg.version pkg (of_itself pkg))

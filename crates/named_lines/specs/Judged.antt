@@ -29,9 +29,9 @@ IsVerdictOn u numbered (verdict.No number) = IsFirstBadBehind u numbered.lines n
 
 -- the verdict on the lines whose pairs are named
 abbrev pub IsNamedVerdict : Universe → List NamedLine → Verdict → Type 0
-IsNamedVerdict u lines found = IsVerdictOn u (numbered_lines u.pairs lines) found
+IsNamedVerdict u lines verdict = IsVerdictOn u (numbered_lines u.pairs lines) verdict
 
 -- the verdict where the line of this number, behind those that were judged, names a missing pair
-abbrev pub stopped : ℕ → Verdict → Verdict
-stopped line verdict.Yes = verdict.No line
-stopped line (verdict.No number) = verdict.No number
+abbrev pub verdict_at : ℕ → Verdict → Verdict
+verdict_at line verdict.Yes = verdict.No line
+verdict_at line (verdict.No number) = verdict.No number

@@ -23,7 +23,7 @@ use Rattle.named_refutation.specs.declared.named.NamedRefutation.{NamedRefutatio
 -- what the items give, if each of them gives something
 abbrev pub each_some : {A B : Type 0} → (A → Option B) → List A → Option (List B)
 each_some give [] = Some []
-each_some give (item ∷ later) = option_and_then (λ found. option_map (λ rest. found ∷ rest) (each_some give later)) (give item)
+each_some give (item ∷ later) = option_and_then (λ value. option_map (λ rest. value ∷ rest) (each_some give later)) (give item)
 
 -- the name and the version of the pair, if its name is one
 abbrev pub named_of : Pair → Option NamedPair
@@ -58,7 +58,7 @@ literal_named pairs (literal.Unselected number) = option_map (λ pair. named_lit
 
 -- the line with each number of a pair replaced, if each is one
 abbrev pub line_named : List Pair → Line → Option NamedLine
-line_named pairs (line.Premise found) = option_map (λ named. named_line.Premise named) (premise_named pairs found)
+line_named pairs (line.Premise premise) = option_map (λ named. named_line.Premise named) (premise_named pairs premise)
 line_named pairs (line.Derived literals hints) = option_map (λ named. named_line.Derived named hints) (each_some (literal_named pairs) literals)
 
 -- the refutation of no index with each number of a pair replaced, if each is one

@@ -20,18 +20,18 @@ use Rattle.named_lines.specs.declared.numbering.NumberedLines.{NumberedLines}
 
 -- what the value gives, if there is one, and else the pair that is missing
 abbrev pub go_on : {A B : Type 0} → (A → Result B NamedPair) → Result A NamedPair → Result B NamedPair
-go_on give (Ok found) = give found
+go_on give (Ok value) = give value
 go_on give (Err missing) = Err missing
 
 -- what is made of the value, if there is one, and else the pair that is missing
 abbrev pub made : {A B : Type 0} → (A → B) → Result A NamedPair → Result B NamedPair
-made make (Ok found) = Ok (make found)
+made make (Ok value) = Ok (make value)
 made make (Err missing) = Err missing
 
 -- what the items give, or the first pair that is missing
 abbrev pub each_ok : {A B : Type 0} → (A → Result B NamedPair) → List A → Result (List B) NamedPair
 each_ok give [] = Ok []
-each_ok give (item ∷ later) = go_on (λ found. made (λ rest. found ∷ rest) (each_ok give later)) (give item)
+each_ok give (item ∷ later) = go_on (λ value. made (λ rest. value ∷ rest) (each_ok give later)) (give item)
 
 -- the number of the named pair, or that pair where it is missing
 abbrev pub pair_numbered : List Pair → NamedPair → Result ℕ NamedPair
@@ -61,19 +61,19 @@ literal_numbered pairs (named_literal.Unselected pair) = made (λ i. literal.Uns
 
 -- the line with each named pair replaced by its number, or the first pair in it that is missing
 abbrev pub line_numbered : List Pair → NamedLine → Result Line NamedPair
-line_numbered pairs (named_line.Premise found) = made (λ numbered. line.Premise numbered) (premise_numbered pairs found)
+line_numbered pairs (named_line.Premise premise) = made (λ numbered. line.Premise numbered) (premise_numbered pairs premise)
 line_numbered pairs (named_line.Derived literals hints) =
     made (λ numbered. line.Derived numbered hints) (each_ok (literal_numbered pairs) literals)
 
 -- the line before those behind it, or where it names a missing pair nothing but that
 abbrev pub put_numbered : ℕ → Result Line NamedPair → NumberedLines → NumberedLines
-put_numbered number (Ok found) later = record { lines = found ∷ later.lines; missing = later.missing }
+put_numbered number (Ok line) later = record { lines = line ∷ later.lines; missing = later.missing }
 put_numbered number (Err pair) later = record { lines = []; missing = Some (record { line = number; pair = pair }) }
 
 -- the lines by numbers, the first of which has this number, up to the first that names a missing pair, and which that is
 abbrev pub numbered_from : List Pair → ℕ → List NamedLine → NumberedLines
 numbered_from pairs number [] = record { lines = []; missing = None }
-numbered_from pairs number (found ∷ later) = put_numbered number (line_numbered pairs found) (numbered_from pairs (number + 1) later)
+numbered_from pairs number (line ∷ later) = put_numbered number (line_numbered pairs line) (numbered_from pairs (number + 1) later)
 
 -- the lines of a refutation by numbers, up to the first that names a missing pair, and which that is
 unfoldable pub numbered_lines : List Pair → List NamedLine → NumberedLines

@@ -4,10 +4,10 @@ ghost use Rattle.std.specs.Prelude.{◌≡◌, ◌<◌, ◌^◌, IfOk, length};
 ghost use Rattle.universe_parts.specs.Parts.{HaveDistinctNames};
 ghost use Rattle.refutecheck.specs.Answer.{Refutes};
 ghost use Rattle.refutecheck.specs.declared.verdict.Verdict.TheVariants.{Yes};
-ghost use Rattle.named_lines.specs.Judged.{AreAccepted, IsNamedVerdict, stopped};
+ghost use Rattle.named_lines.specs.Judged.{AreAccepted, IsNamedVerdict, verdict_at};
 ghost use Rattle.named_lines.specs.Numbering.{numbered_lines};
 
-use crate::numbering::numbered;
+use crate::numbering::number_pairs;
 use named_refutation::NamedRefutation;
 use refutation::one_answer;
 use refutecheck::{Verdict, check_refutation};
@@ -15,8 +15,8 @@ use std::alloc::{AllocError, Global};
 use universe::Universe;
 
 // The verdict where the line of this number, behind those that were judged, names a missing pair.
-fn stopped(line: usize, judged: Verdict) -> Verdict
-    ensures { result ≡ stopped line judged }
+fn verdict_at(line: usize, judged: Verdict) -> Verdict
+    ensures { result ≡ verdict_at line judged }
 {
     match judged {
         Verdict::Yes => Verdict::No(line),
@@ -26,7 +26,7 @@ fn stopped(line: usize, judged: Verdict) -> Verdict
 
 /// The verdict on the refutation: yes exactly where each pair that it names is one of the universe, and its lines by numbers are
 /// accepted; else the number of the first line that names a missing pair or isn't good (docs/FORMATS.md). A yes means that no
-/// selection of the pairs is acceptable. It costs what `numbered` and `refutecheck::check_refutation` do. Memory alone can fail.
+/// selection of the pairs is acceptable. It costs what `number_pairs` and `refutecheck::check_refutation` do. Memory alone can fail.
 pub fn check_named(
     alloc: Global,
     universe: &Universe<'_, '_>,
@@ -42,13 +42,14 @@ pub fn check_named(
     ensures refutes { IfOk result (Refutes universe.now) }
     // where the lines can be numbered and are accepted, the answer is yes
     ensures complete { IfOk result (λ verdict.
-        AreAccepted universe.now (numbered_lines universe.now.pairs refutation.now.lines) → verdict ≡ Yes) }
+        AreAccepted universe.now (numbered_lines universe.now.pairs refutation.now.lines) → verdict
+        ≡ Yes) }
 {
     one_answer();
-    let found = numbered(alloc, universe, refutation)?;
-    let judged = check_refutation(alloc, universe, &found.lines)?;
-    match &found.missing {
+    let by_number = number_pairs(alloc, universe, refutation)?;
+    let judged = check_refutation(alloc, universe, &by_number.lines)?;
+    match &by_number.missing {
         None => Ok(judged),
-        Some(missing) => Ok(stopped(missing.line, judged)),
+        Some(missing) => Ok(verdict_at(missing.line, judged)),
     }
 }

@@ -11,7 +11,8 @@ ghost use Rattle.named_lines.specs.Numbering.{numbered_lines};
 /// Over pairs that ascend, as those of a universe do, a refutation whose pairs are named in place of numbers has its lines again
 /// where they are numbered, and no pair is missing: so the verdict on it is that on the lines by numbers.
 pub fn named_lines_are_numbered_again()
-    ensures { (pairs : List Pair) (lines : List Line) (found : NamedRefutation) → IsStrictlySortedBy pair_cmp pairs
-        → refutation_named pairs lines ≡ Some found
-        → numbered_lines pairs found.lines ≡ record { lines = lines; missing = None } }
+    ensures { (pairs : List Pair) (lines : List Line) (refutation : NamedRefutation)
+        → IsStrictlySortedBy pair_cmp pairs
+        → refutation_named pairs lines ≡ Some refutation
+        → numbered_lines pairs refutation.lines ≡ record { lines = lines; missing = None } }
 {}

@@ -10,5 +10,5 @@ mod numbering;
 
 pub use check::check_named;
 pub use laws::named_lines_are_numbered_again;
-pub use naming::named;
-pub use numbering::{Missing, NumberedLines, numbered};
+pub use naming::name_pairs;
+pub use numbering::{Missing, NumberedLines, number_pairs};

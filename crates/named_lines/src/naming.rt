@@ -11,7 +11,7 @@ use universe::{Pair, Universe};
 
 // The name and the version of the pair, if its name is one.
 fn named_of(alloc: Global, pair: &Pair<'_, '_>) -> Result<Option<NamedPair>, AllocError>
-    ensures { IfOk result (λ found. found ≡ named_of pair.now) }
+    ensures { IfOk result (λ answer. answer ≡ named_of pair.now) }
 {
     let name = pair.name();
     if !is_name(name) {
@@ -29,7 +29,7 @@ fn pair_named(
     universe: &Universe<'_, '_>,
     number: u32,
 ) -> Result<Option<NamedPair>, AllocError>
-    ensures { IfOk result (λ found. found ≡ pair_named universe.now.pairs number) }
+    ensures { IfOk result (λ answer. answer ≡ pair_named universe.now.pairs number) }
 {
     match universe.pair(number) {
         None => Ok(None),
@@ -44,7 +44,7 @@ fn two_named(
     number: u32,
     other: u32,
 ) -> Result<Option<(NamedPair, NamedPair)>, AllocError>
-    ensures { IfOk result (λ found. found ≡ two_named universe.now.pairs number other) }
+    ensures { IfOk result (λ answer. answer ≡ two_named universe.now.pairs number other) }
 {
     let Some(first) = pair_named(alloc, universe, number)? else {
         return Ok(None);
@@ -61,7 +61,7 @@ fn premise_named(
     universe: &Universe<'_, '_>,
     premise: &Premise,
 ) -> Result<Option<NamedPremise>, AllocError>
-    ensures { IfOk result (λ found. found ≡ premise_named universe.now.pairs premise.now) }
+    ensures { IfOk result (λ answer. answer ≡ premise_named universe.now.pairs premise.now) }
 {
     match premise {
         Premise::Same(number, other) => Ok(two_named(alloc, universe, *number, *other)?.map(
@@ -97,7 +97,7 @@ fn literal_named(
     universe: &Universe<'_, '_>,
     literal: Literal,
 ) -> Result<Option<NamedLiteral>, AllocError>
-    ensures { IfOk result (λ found. found ≡ literal_named universe.now.pairs literal) }
+    ensures { IfOk result (λ answer. answer ≡ literal_named universe.now.pairs literal) }
 {
     match literal {
         Literal::Selected(number) => {
@@ -115,14 +115,15 @@ fn literals_named(
     universe: &Universe<'_, '_>,
     literals: &[Literal],
 ) -> Result<Option<Items<NamedLiteral>>, AllocError>
-    ensures { IfOk result (λ found. found ≡ each_some (literal_named universe.now.pairs) literals.now) }
+    ensures { IfOk result
+        (λ answer. answer ≡ each_some (literal_named universe.now.pairs) literals.now) }
 {
     let mut named = Vec::new(alloc);
     for literal in literals {
-        let Some(found) = literal_named(alloc, universe, *literal)? else {
+        let Some(answer) = literal_named(alloc, universe, *literal)? else {
             return Ok(None);
         };
-        named.push(found)?;
+        named.push(answer)?;
     }
     Ok(Some(Items::new(named)))
 }
@@ -133,7 +134,7 @@ fn line_named(
     universe: &Universe<'_, '_>,
     line: &Line,
 ) -> Result<Option<NamedLine>, AllocError>
-    ensures { IfOk result (λ found. found ≡ line_named universe.now.pairs line.now) }
+    ensures { IfOk result (λ answer. answer ≡ line_named universe.now.pairs line.now) }
 {
     match line {
         Line::Premise(premise) => Ok(premise_named(alloc, universe, premise)?.map(
@@ -155,14 +156,14 @@ fn lines_named(
     universe: &Universe<'_, '_>,
     lines: &[Line],
 ) -> Result<Option<Items<NamedLine>>, AllocError>
-    ensures { IfOk result (λ found. found ≡ each_some (line_named universe.now.pairs) lines.now) }
+    ensures { IfOk result (λ answer. answer ≡ each_some (line_named universe.now.pairs) lines.now) }
 {
     let mut named = Vec::new(alloc);
     for line in lines {
-        let Some(found) = line_named(alloc, universe, line)? else {
+        let Some(answer) = line_named(alloc, universe, line)? else {
             return Ok(None);
         };
-        named.push(found)?;
+        named.push(answer)?;
     }
     Ok(Some(Items::new(named)))
 }
@@ -171,12 +172,12 @@ fn lines_named(
 /// one whose name is none (Policy 5.6.1). It names no index: the caller puts in those that it was found over. Memory alone can fail;
 /// linear in the refutation and in the names.
 #[tactic(auto, unfolding(crate::specs::Naming::refutation_named))]
-pub fn named(
+pub fn name_pairs(
     alloc: Global,
     universe: &Universe<'_, '_>,
     refutation: &Refutation,
 ) -> Result<Option<NamedRefutation>, AllocError>
-    ensures { IfOk result (λ found. found ≡ refutation_named universe.now.pairs refutation.now) }
+    ensures { IfOk result (λ answer. answer ≡ refutation_named universe.now.pairs refutation.now) }
 {
     let Some(lines) = lines_named(alloc, universe, refutation.as_slice())? else {
         return Ok(None);

@@ -45,7 +45,7 @@ fn pair_numbered(
     pair: &NamedPair,
 ) -> Result<Result<u32, NamedPair>, AllocError>
     requires { length universe.now.pairs < 2 ^ 32 }
-    ensures { IfOk result (λ found. found ≡ pair_numbered universe.now.pairs pair.now) }
+    ensures { IfOk result (λ answer. answer ≡ pair_numbered universe.now.pairs pair.now) }
 {
     let Ok(version) = Version::parse(pair.version.as_bytes()) else {
         unreachable!()
@@ -64,7 +64,7 @@ fn two_numbered(
     other: &NamedPair,
 ) -> Result<Result<(u32, u32), NamedPair>, AllocError>
     requires { length universe.now.pairs < 2 ^ 32 }
-    ensures { IfOk result (λ found. found ≡ two_numbered universe.now.pairs pair.now other.now) }
+    ensures { IfOk result (λ answer. answer ≡ two_numbered universe.now.pairs pair.now other.now) }
 {
     match pair_numbered(alloc, universe, pair)? {
         Err(missing) => Ok(Err(missing)),
@@ -79,7 +79,7 @@ fn premise_numbered(
     premise: &NamedPremise,
 ) -> Result<Result<Premise, NamedPair>, AllocError>
     requires { length universe.now.pairs < 2 ^ 32 }
-    ensures { IfOk result (λ found. found ≡ premise_numbered universe.now.pairs premise.now) }
+    ensures { IfOk result (λ answer. answer ≡ premise_numbered universe.now.pairs premise.now) }
 {
     match premise {
         NamedPremise::Same(pair, other) => Ok(two_numbered(alloc, universe, pair, other)?.map(
@@ -116,7 +116,7 @@ fn literal_numbered(
     literal: &NamedLiteral,
 ) -> Result<Result<Literal, NamedPair>, AllocError>
     requires { length universe.now.pairs < 2 ^ 32 }
-    ensures { IfOk result (λ found. found ≡ literal_numbered universe.now.pairs literal.now) }
+    ensures { IfOk result (λ answer. answer ≡ literal_numbered universe.now.pairs literal.now) }
 {
     match literal {
         NamedLiteral::Selected(pair) => {
@@ -135,13 +135,14 @@ fn literals_numbered(
     literals: &[NamedLiteral],
 ) -> Result<Result<Items<Literal>, NamedPair>, AllocError>
     requires { length universe.now.pairs < 2 ^ 32 }
-    ensures { IfOk result (λ found. found ≡ each_ok (literal_numbered universe.now.pairs) literals.now) }
+    ensures { IfOk result
+        (λ answer. answer ≡ each_ok (literal_numbered universe.now.pairs) literals.now) }
 {
     let mut numbered = Vec::new(alloc);
     for literal in literals {
         match literal_numbered(alloc, universe, literal)? {
             Err(missing) => return Ok(Err(missing)),
-            Ok(found) => numbered.push(found)?,
+            Ok(answer) => numbered.push(answer)?,
         }
     }
     Ok(Ok(Items::new(numbered)))
@@ -154,7 +155,7 @@ fn line_numbered(
     line: &NamedLine,
 ) -> Result<Result<Line, NamedPair>, AllocError>
     requires { length universe.now.pairs < 2 ^ 32 }
-    ensures { IfOk result (λ found. found ≡ line_numbered universe.now.pairs line.now) }
+    ensures { IfOk result (λ answer. answer ≡ line_numbered universe.now.pairs line.now) }
 {
     match line {
         NamedLine::Premise(premise) => Ok(premise_numbered(alloc, universe, premise)?.map(
@@ -175,14 +176,15 @@ fn line_numbered(
 /// The lines of the refutation with each named pair replaced by its number in the universe, up to the first line that names a pair
 /// which is none of its, and which that is. Memory alone can fail; a binary search among the pairs for each name.
 #[tactic(auto, unfolding(crate::specs::Numbering::numbered_lines))]
-pub fn numbered(
+pub fn number_pairs(
     alloc: Global,
     universe: &Universe<'_, '_>,
     refutation: &NamedRefutation,
 ) -> Result<NumberedLines, AllocError>
     // pairs have numbers of 32 bits, as those of a request have (`rules::PAIRS`)
     requires few { length universe.now.pairs < 2 ^ 32 }
-    ensures { IfOk result (λ found. found ≡ numbered_lines universe.now.pairs refutation.now.lines) }
+    ensures { IfOk result
+        (λ answer. answer ≡ numbered_lines universe.now.pairs refutation.now.lines) }
 {
     let mut lines = Vec::new(alloc);
     for (place, line) in refutation.lines.as_slice().iter().enumerate() {
@@ -196,7 +198,7 @@ pub fn numbered(
                     }),
                 });
             }
-            Ok(found) => lines.push(found)?,
+            Ok(answer) => lines.push(answer)?,
         }
     }
     Ok(NumberedLines {

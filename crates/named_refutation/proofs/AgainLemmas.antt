@@ -119,13 +119,13 @@ derived_again literals (hint ∷ hints) h named =
 -- Lines
 
 -- the words of a line are read as it
-words_again : (found : NamedLine) → is_writable found ≡ true → is_named found ≡ true → line_of_words (words_of found) ≡ Some found
+words_again : (line : NamedLine) → is_writable line ≡ true → is_named line ≡ true → line_of_words (words_of line) ≡ Some line
 words_again (line.Premise premise) h named = premise_again premise h named
 words_again (line.Derived literals hints) h named = derived_again literals hints h named
 
 -- the words of a line with spaces between them
 abbrev pub joined_words : NamedLine → List ℕ
-joined_words found = join_with_byte 32 (words_of found)
+joined_words line = join_with_byte 32 (words_of line)
 
 premise_parted : (premise : NamedPremise) → AreFree 32 (premise_words premise) → parts_at 32 (join_with_byte 32 (premise_words premise)) ≡ premise_words premise
 premise_parted (Same pair other) free = joined_parts 32 (codes "same") (pair_words pair (pair_words other [])) free
@@ -139,22 +139,22 @@ premise_parted (Hold pair) free = joined_parts 32 (codes "hold") (pair_words pai
 premise_parted (Essential name) free = joined_parts 32 (codes "essential") (name ∷ []) free
 premise_parted (Keep name) free = joined_parts 32 (codes "keep") (name ∷ []) free
 
-words_parted : (found : NamedLine) → AreFree 32 (words_of found) → parts_at 32 (joined_words found) ≡ words_of found
+words_parted : (line : NamedLine) → AreFree 32 (words_of line) → parts_at 32 (joined_words line) ≡ words_of line
 words_parted (line.Premise premise) free = premise_parted premise free
 words_parted (line.Derived literals hints) free = joined_parts 32 (codes "derive") (flat_map literal_words literals ++ codes ":" ∷ map decimal hints) free
 
 -- the text of a line is read as it
-pub line_again : (found : NamedLine) → is_writable found ≡ true → is_named found ≡ true → line_of (joined_words found) ≡ Some found
+pub line_again : (line : NamedLine) → is_writable line ≡ true → is_named line ≡ true → line_of (joined_words line) ≡ Some line
 unfolding line_of
-line_again found h named = ap line_of_words (words_parted found (words_free 32 found space_outside h named)) ∙ words_again found h named
+line_again line h named = ap line_of_words (words_parted line (words_free 32 line space_outside h named)) ∙ words_again line h named
 
-line_free : (found : NamedLine) → is_writable found ≡ true → is_named found ≡ true → IsFree 10 (joined_words found)
-line_free found h named = joined_free 10 32 (words_of found) refl (words_free 10 found newline_outside h named)
+line_free : (line : NamedLine) → is_writable line ≡ true → is_named line ≡ true → IsFree 10 (joined_words line)
+line_free line h named = joined_free 10 32 (words_of line) refl (words_free 10 line newline_outside h named)
 
 -- a line and its newline before other bytes
-pub line_parted : (found : NamedLine) (rest : List ℕ) → is_writable found ≡ true → is_named found ≡ true
-    → parts_at 10 (line_text found ++ rest) ≡ joined_words found ∷ parts_at 10 rest
+pub line_parted : (line : NamedLine) (rest : List ℕ) → is_writable line ≡ true → is_named line ≡ true
+    → parts_at 10 (line_text line ++ rest) ≡ joined_words line ∷ parts_at 10 rest
 unfolding line_text
-line_parted found rest h named =
-    ap (parts_at 10) (append_assoc (joined_words found) (10 ∷ []) rest)
-    ∙ slice_split_at (λ b. eqb b 10) (joined_words found) 10 rest (line_free found h named) refl
+line_parted line rest h named =
+    ap (parts_at 10) (append_assoc (joined_words line) (10 ∷ []) rest)
+    ∙ slice_split_at (λ b. eqb b 10) (joined_words line) 10 rest (line_free line h named) refl

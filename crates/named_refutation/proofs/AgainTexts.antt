@@ -98,7 +98,7 @@ end_again before count small =
 -- Lines
 
 -- no line ends others
-line_is_no_end : (found : NamedLine) (count : ℕ) → bytes_eq (joined_words found) (end_line count) ≡ false
+line_is_no_end : (line : NamedLine) (count : ℕ) → bytes_eq (joined_words line) (end_line count) ≡ false
 line_is_no_end (line.Premise (Same pair other)) count = refl
 line_is_no_end (line.Premise (PreDepends pair clause)) count = refl
 line_is_no_end (line.Premise (Depends pair clause)) count = refl
@@ -114,7 +114,7 @@ line_is_no_end (line.Derived (Selected pair ∷ later) hints) count = refl
 line_is_no_end (line.Derived (Unselected pair ∷ later) hints) count = refl
 
 -- no line is that of an index
-line_is_no_index : (found : NamedLine) → index_of (joined_words found) ≡ None
+line_is_no_index : (line : NamedLine) → index_of (joined_words line) ≡ None
 unfolding index_of
 line_is_no_index (line.Premise (Same pair other)) = refl
 line_is_no_index (line.Premise (PreDepends pair clause)) = refl
@@ -134,29 +134,29 @@ end_is_no_index : (count : ℕ) → index_of (end_line count) ≡ None
 unfolding index_of
 end_is_no_index count = refl
 
-line_in_place : (before number : ℕ) (found : NamedLine) → is_writable found ≡ true → is_named found ≡ true → not (is_wide found) ≡ true → number ≤ LINES
-    → line_in_text before number (joined_words found) ≡ Ok found
-line_in_place before number found h named narrow within =
-    ap (numbered_line before number) (line_again found h named) ∙ rw (le-ltb LINES number within, not-true (is_wide found) narrow) refl
+line_in_place : (before number : ℕ) (line : NamedLine) → is_writable line ≡ true → is_named line ≡ true → not (is_wide line) ≡ true → number ≤ LINES
+    → line_in_text before number (joined_words line) ≡ Ok line
+line_in_place before number line h named narrow within =
+    ap (numbered_line before number) (line_again line h named) ∙ rw (le-ltb LINES number within, not-true (is_wide line) narrow) refl
 
 -- what is known of lines that are written
 record AreGood (lines : List NamedLine) : Type 0 where
   writable : list_all is_writable lines ≡ true
   named : list_all is_named lines ≡ true
-  narrow : list_all (λ found. not (is_wide found)) lines ≡ true
+  narrow : list_all (λ line. not (is_wide line)) lines ≡ true
 
 -- the same of the first and of those behind it
-record IsGoodBefore (found : NamedLine) (later : List NamedLine) : Type 0 where
-  writable : is_writable found ≡ true
-  named : is_named found ≡ true
-  narrow : not (is_wide found) ≡ true
+record IsGoodBefore (line : NamedLine) (later : List NamedLine) : Type 0 where
+  writable : is_writable line ≡ true
+  named : is_named line ≡ true
+  narrow : not (is_wide line) ≡ true
   behind : AreGood later
 
-good_parts : (found : NamedLine) (later : List NamedLine) → AreGood (found ∷ later) → IsGoodBefore found later
-good_parts found later good =
-    let writable = and_parts (is_writable found) (list_all is_writable later) good.writable in
-    let named = and_parts (is_named found) (list_all is_named later) good.named in
-    let narrow = and_parts (not (is_wide found)) (list_all (λ other. not (is_wide other)) later) good.narrow in
+good_parts : (line : NamedLine) (later : List NamedLine) → AreGood (line ∷ later) → IsGoodBefore line later
+good_parts line later good =
+    let writable = and_parts (is_writable line) (list_all is_writable later) good.writable in
+    let named = and_parts (is_named line) (list_all is_named later) good.named in
+    let narrow = and_parts (not (is_wide line)) (list_all (λ other. not (is_wide other)) later) good.narrow in
     record {
       writable = writable.0;
       named = named.0;
@@ -170,19 +170,19 @@ lines_again : (before count : ℕ) (lines : List NamedLine) → AreGood lines �
 lines_again before count [] good within =
     let none : count + length {A = NamedLine} [] ≡ count = omega arith in
     ap (λ n. read_lines before count (parts_at 10 (end_line n ++ 10 ∷ []))) none ∙ end_again before count (omega arith)
-lines_again before count (found ∷ later) good within =
-    let is = good_parts found later good in
-    let end = end_line (count + length (found ∷ later)) ++ 10 ∷ [] in
+lines_again before count (line ∷ later) good within =
+    let is = good_parts line later good in
+    let end = end_line (count + length (line ∷ later)) ++ 10 ∷ [] in
     let rest = flat_map line_text later ++ end in
     let here : count + 1 ≤ LINES = omega arith in
     let left : (count + 1) + length later ≤ LINES = omega arith in
-    let same : count + length (found ∷ later) ≡ (count + 1) + length later = omega arith in
-    ap (λ text. read_lines before count (parts_at 10 text)) (append_assoc (line_text found) (flat_map line_text later) end)
-    ∙ ap (read_lines before count) (line_parted found rest is.writable is.named)
-    ∙ read_lines_more before count (joined_words found) rest (line_is_no_end found count)
-    ∙ ap (λ read. put_line read (read_lines before (count + 1) (parts_at 10 rest))) (line_in_place before (count + 1) found is.writable is.named is.narrow here)
-    ∙ ap (λ n. put_line (Ok found) (read_lines before (count + 1) (parts_at 10 (flat_map line_text later ++ (end_line n ++ 10 ∷ []))))) same
-    ∙ ap (put_line (Ok found)) (lines_again before (count + 1) later is.behind left)
+    let same : count + length (line ∷ later) ≡ (count + 1) + length later = omega arith in
+    ap (λ text. read_lines before count (parts_at 10 text)) (append_assoc (line_text line) (flat_map line_text later) end)
+    ∙ ap (read_lines before count) (line_parted line rest is.writable is.named)
+    ∙ read_lines_more before count (joined_words line) rest (line_is_no_end line count)
+    ∙ ap (λ read. put_line read (read_lines before (count + 1) (parts_at 10 rest))) (line_in_place before (count + 1) line is.writable is.named is.narrow here)
+    ∙ ap (λ n. put_line (Ok line) (read_lines before (count + 1) (parts_at 10 (flat_map line_text later ++ (end_line n ++ 10 ∷ []))))) same
+    ∙ ap (put_line (Ok line)) (lines_again before (count + 1) later is.behind left)
 
 -- before lines and their end no index is cut off
 none_cut : (count : ℕ) (lines : List NamedLine) → AreGood lines → count + length lines < 2 ^ 64
@@ -191,13 +191,13 @@ none_cut count [] good small =
     let all = count + length {A = NamedLine} [] in
     ap cut_indices (end_parted all small) ∙ cut_none (end_line all) [] (end_is_no_index all)
     ∙ ap (λ (parts : List (List ℕ)). ([], parts)) (sym (end_parted all small))
-none_cut count (found ∷ later) good small =
-    let is = good_parts found later good in
-    let end = end_line (count + length (found ∷ later)) ++ 10 ∷ [] in
+none_cut count (line ∷ later) good small =
+    let is = good_parts line later good in
+    let end = end_line (count + length (line ∷ later)) ++ 10 ∷ [] in
     let rest = flat_map line_text later ++ end in
-    let parts : parts_at 10 (ended count (found ∷ later)) ≡ joined_words found ∷ parts_at 10 rest =
-    ap (parts_at 10) (append_assoc (line_text found) (flat_map line_text later) end) ∙ line_parted found rest is.writable is.named in
-    ap cut_indices parts ∙ cut_none (joined_words found) rest (line_is_no_index found) ∙ ap (λ (all : List (List ℕ)). ([], all)) (sym parts)
+    let parts : parts_at 10 (ended count (line ∷ later)) ≡ joined_words line ∷ parts_at 10 rest =
+    ap (parts_at 10) (append_assoc (line_text line) (flat_map line_text later) end) ∙ line_parted line rest is.writable is.named in
+    ap cut_indices parts ∙ cut_none (joined_words line) rest (line_is_no_index line) ∙ ap (λ (all : List (List ℕ)). ([], all)) (sym parts)
 
 -- Texts
 

@@ -86,7 +86,7 @@ literals_free byte (Unselected pair ∷ later) behind outside h free =
 colon_free : (byte : ℕ) → IsOutside byte → IsFree byte (codes ":")
 colon_free byte outside = All-cons (λ b. eqb b byte ≡ false) 58 [] outside.colon (All-nil (λ b. eqb b byte ≡ false))
 
-pub words_free : (byte : ℕ) (found : NamedLine) → IsOutside byte → is_writable found ≡ true → is_named found ≡ true → AreFree byte (words_of found)
+pub words_free : (byte : ℕ) (line : NamedLine) → IsOutside byte → is_writable line ≡ true → is_named line ≡ true → AreFree byte (words_of line)
 words_free byte (line.Premise premise) outside h named = premise_free byte premise outside h named
 words_free byte (line.Derived literals hints) outside h named =
     let both = and_parts (list_all (is_number NUMBER) hints) (are_distinct literals && is_some_hint hints) h in

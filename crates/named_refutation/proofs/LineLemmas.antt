@@ -24,10 +24,10 @@ pub literal_read : (literals : List NamedLiteral) (literal : NamedLiteral) (word
 literal_read literals literal word version later other is = rw (other, is) refl
 
 -- a line that is put before others stands behind those so far
-pub put_lines_more : (lines : List NamedLine) (found : NamedLine) (later : Result (List NamedLine) RefutationFault)
-    → put_lines (lines ++ found ∷ []) later ≡ put_lines lines (put_line (Ok found) later)
-put_lines_more lines found (Ok later) = ap (λ behind. Ok behind) (append_assoc lines (found ∷ []) later)
-put_lines_more lines found (Err fault) = refl
+pub put_lines_more : (lines : List NamedLine) (line : NamedLine) (later : Result (List NamedLine) RefutationFault)
+    → put_lines (lines ++ line ∷ []) later ≡ put_lines lines (put_line (Ok line) later)
+put_lines_more lines line (Ok later) = ap (λ behind. Ok behind) (append_assoc lines (line ∷ []) later)
+put_lines_more lines line (Err fault) = refl
 
 -- the refusal of a line is the refusal of all
 pub line_refused : (e : RefutationError) (lines : List NamedLine) (read : Result NamedLine RefutationFault) (later : Result (List NamedLine) RefutationFault)
@@ -55,13 +55,13 @@ lines_split lines before count text line rest split other =
     ap (put_lines lines) (sym (ap (read_lines before count) split.parts ∙ read_lines_more before count line rest other))
 
 -- a line is read
-pub lines_read : (lines : List NamedLine) (found : NamedLine) (before count : ℕ) (text line rest : List ℕ) → SplitsPart NEWLINE text line rest
-    → bytes_eq line (end_line count) ≡ false → line_in_text before (count + 1) line ≡ Ok found
-    → put_lines (lines ++ found ∷ []) (read_lines before (count + 1) (parts_at NEWLINE rest))
+pub lines_read : (lines : List NamedLine) (line_read : NamedLine) (before count : ℕ) (text line rest : List ℕ) → SplitsPart NEWLINE text line rest
+    → bytes_eq line (end_line count) ≡ false → line_in_text before (count + 1) line ≡ Ok line_read
+    → put_lines (lines ++ line_read ∷ []) (read_lines before (count + 1) (parts_at NEWLINE rest))
     ≡ put_lines lines (read_lines before count (parts_at NEWLINE text))
-lines_read lines found before count text line rest split other read =
+lines_read lines line_read before count text line rest split other read =
     let later = read_lines before (count + 1) (parts_at NEWLINE rest) in
-    put_lines_more lines found later ∙ ap (λ first. put_lines lines (put_line first later)) (sym read)
+    put_lines_more lines line_read later ∙ ap (λ first. put_lines lines (put_line first later)) (sym read)
     ∙ lines_split lines before count text line rest split other
 
 -- a line is refused, and so all is

@@ -83,7 +83,7 @@ pair_and_number_are (name ∷ version ∷ later) both h = go (pair_of name versi
   go (Some pair) e (Some number) k g =
       let same : (pair, number) ≡ both = cc in
       pair_is name version later pair e ∙ ap (pair_words pair) (only_number_is later number k)
-      ∙ ap (λ (found : NamedPair × ℕ). pair_words found.0 (decimal found.1 ∷ [])) same
+      ∙ ap (λ (pair_read : NamedPair × ℕ). pair_words pair_read.0 (decimal pair_read.1 ∷ [])) same
 
 number_and_pair_are : (words : List (List ℕ)) (both : ℕ × NamedPair) → number_and_pair words ≡ Some both → words ≡ decimal both.0 ∷ pair_words both.1 []
 number_and_pair_are [] both h = cc
@@ -95,22 +95,22 @@ number_and_pair_are (word ∷ later) both h = go (number_in NUMBER word) refl (o
   go (Some number) e (Some pair) k g =
       let same : (number, pair) ≡ both = cc in
       ap (λ (w : List ℕ). w ∷ later) (number_is NUMBER word number number_small e) ∙ ap (λ (ws : List (List ℕ)). decimal number ∷ ws) (only_pair_is later pair k)
-      ∙ ap (λ (found : ℕ × NamedPair). decimal found.0 ∷ pair_words found.1 []) same
+      ∙ ap (λ (pair_read : ℕ × NamedPair). decimal pair_read.0 ∷ pair_words pair_read.1 []) same
 
 -- Premises
 
 -- what is found of the words is told by them, and so is the premise that is made of it
 made_is : {A : Type 0} (to_premise : A → NamedPremise) (spell : A → List (List ℕ)) (kind word : List ℕ) (words : List (List ℕ)) (read : Option A)
-    (premise : NamedPremise) → ((found : A) → read ≡ Some found → words ≡ spell found)
-    → ((found : A) → premise_words (to_premise found) ≡ word ∷ spell found)
+    (premise : NamedPremise) → ((value : A) → read ≡ Some value → words ≡ spell value)
+    → ((value : A) → premise_words (to_premise value) ≡ word ∷ spell value)
     → bytes_eq kind word ≡ true → option_map to_premise read ≡ Some premise → kind ∷ words ≡ premise_words premise
 made_is {A} to_premise spell kind word words read premise told spelled e h = go read refl h where
-  go : (found : Option A) → read ≡ found → option_map to_premise found ≡ Some premise → kind ∷ words ≡ premise_words premise
+  go : (value : Option A) → read ≡ value → option_map to_premise value ≡ Some premise → kind ∷ words ≡ premise_words premise
   go None r g = cc
-  go (Some found) r g =
-      let same : to_premise found ≡ premise = cc in
-      ap (λ (k : List ℕ). k ∷ words) (bytes_eq-true kind word e) ∙ ap (λ (ws : List (List ℕ)). word ∷ ws) (told found r)
-      ∙ sym (spelled found) ∙ ap premise_words same
+  go (Some value) r g =
+      let same : to_premise value ≡ premise = cc in
+      ap (λ (k : List ℕ). k ∷ words) (bytes_eq-true kind word e) ∙ ap (λ (ws : List (List ℕ)). word ∷ ws) (told value r)
+      ∙ sym (spelled value) ∙ ap premise_words same
 
 -- two pairs, told by this word
 two_told : (to_premise : NamedPair → NamedPair → NamedPremise) (kind word : List ℕ) (words : List (List ℕ)) (premise : NamedPremise)
@@ -140,8 +140,8 @@ name_told to_premise kind word words premise e spelled h =
 goal_is : (kind : List ℕ) (words : List (List ℕ)) (premise : NamedPremise) → bytes_eq kind (codes "goal") ≡ true → goal_of words ≡ Some premise
     → kind ∷ words ≡ premise_words premise
 goal_is kind words premise e h = go (only_number NUMBER words) refl h where
-  go : (found : Option ℕ) → only_number NUMBER words ≡ found
-      → option_or (option_map (λ goal. Goal goal) found) (option_map (λ (both : ℕ × NamedPair). GoalOn both.0 both.1) (number_and_pair words)) ≡ Some premise
+  go : (read : Option ℕ) → only_number NUMBER words ≡ read
+      → option_or (option_map (λ goal. Goal goal) read) (option_map (λ (both : ℕ × NamedPair). GoalOn both.0 both.1) (number_and_pair words)) ≡ Some premise
       → kind ∷ words ≡ premise_words premise
   go None r g =
       made_is (λ (both : ℕ × NamedPair). GoalOn both.0 both.1) (λ both. decimal both.0 ∷ pair_words both.1 []) kind (codes "goal") words (number_and_pair words)
@@ -200,44 +200,44 @@ literal_is (b ∷ name) version later literal h = elim (cases_Bool (eqb b 45)) [
   minus_before [] = []
   minus_before (word ∷ behind) = (45 ∷ word) ∷ behind
 
-  unselected : (found : Option NamedPair) → pair_of name version ≡ found → option_map (λ pair. Unselected pair) found ≡ Some literal → eqb b 45 ≡ true
+  unselected : (one : Option NamedPair) → pair_of name version ≡ one → option_map (λ pair. Unselected pair) one ≡ Some literal → eqb b 45 ≡ true
       → (b ∷ name) ∷ version ∷ later ≡ literal_words literal ++ later
   unselected None e g minus = cc
   unselected (Some pair) e g minus =
       let same : Unselected pair ≡ literal = cc in
       ap (λ (first : ℕ). (first ∷ name) ∷ version ∷ later) (eqb-true b 45 minus) ∙ ap minus_before (pair_is name version later pair e)
-      ∙ ap (λ (found : NamedLiteral). literal_words found ++ later) same
+      ∙ ap (λ (one : NamedLiteral). literal_words one ++ later) same
 
-  selected : (found : Option NamedPair) → pair_of (b ∷ name) version ≡ found → option_map (λ pair. Selected pair) found ≡ Some literal
+  selected : (one : Option NamedPair) → pair_of (b ∷ name) version ≡ one → option_map (λ pair. Selected pair) one ≡ Some literal
       → (b ∷ name) ∷ version ∷ later ≡ literal_words literal ++ later
   selected None e g = cc
   selected (Some pair) e g =
       let same : Selected pair ≡ literal = cc in
-      pair_is (b ∷ name) version later pair e ∙ ap (λ (found : NamedLiteral). literal_words found ++ later) same
+      pair_is (b ∷ name) version later pair e ∙ ap (λ (one : NamedLiteral). literal_words one ++ later) same
 
 -- a hint that is read, before words that are those of the hints
-hint_more : (hints : List ℕ) (hint : ℕ) (word : List ℕ) (later : List (List ℕ)) (found : List ℕ) → word ≡ decimal hint
-    → map decimal (hints ++ hint ∷ []) ++ later ≡ map decimal found → map decimal hints ++ word ∷ later ≡ map decimal found
-hint_more hints hint word later found is behind =
+hint_more : (hints : List ℕ) (hint : ℕ) (word : List ℕ) (later : List (List ℕ)) (all : List ℕ) → word ≡ decimal hint
+    → map decimal (hints ++ hint ∷ []) ++ later ≡ map decimal all → map decimal hints ++ word ∷ later ≡ map decimal all
+hint_more hints hint word later all is behind =
     ap (λ (w : List ℕ). map decimal hints ++ w ∷ later) is
     ∙ sym (append_assoc (map decimal hints) (decimal hint ∷ []) later)
     ∙ ap (λ (ws : List (List ℕ)). ws ++ later) (sym (map_push decimal hints hint))
     ∙ behind
 
 -- what is read as hints is the hints so far and the words
-hints_are : (hints : List ℕ) (words : List (List ℕ)) (found : List ℕ) → hints_from hints words ≡ Some found → map decimal hints ++ words ≡ map decimal found
-hints_are hints [] found h = let same : hints ≡ found = cc in append-nil (map decimal hints) ∙ ap (map decimal) same
-hints_are hints (word ∷ later) found h = go (λ hint g. hints_are (hints ++ hint ∷ []) later found g) (number_in NUMBER word) refl h where
-  go : ((hint : ℕ) → hints_from (hints ++ hint ∷ []) later ≡ Some found → map decimal (hints ++ hint ∷ []) ++ later ≡ map decimal found)
-      → (read : Option ℕ) → number_in NUMBER word ≡ read → option_and_then (λ hint. hints_from (hints ++ hint ∷ []) later) read ≡ Some found
-      → map decimal hints ++ word ∷ later ≡ map decimal found
+hints_are : (hints : List ℕ) (words : List (List ℕ)) (all : List ℕ) → hints_from hints words ≡ Some all → map decimal hints ++ words ≡ map decimal all
+hints_are hints [] all h = let same : hints ≡ all = cc in append-nil (map decimal hints) ∙ ap (map decimal) same
+hints_are hints (word ∷ later) all h = go (λ hint g. hints_are (hints ++ hint ∷ []) later all g) (number_in NUMBER word) refl h where
+  go : ((hint : ℕ) → hints_from (hints ++ hint ∷ []) later ≡ Some all → map decimal (hints ++ hint ∷ []) ++ later ≡ map decimal all)
+      → (read : Option ℕ) → number_in NUMBER word ≡ read → option_and_then (λ hint. hints_from (hints ++ hint ∷ []) later) read ≡ Some all
+      → map decimal hints ++ word ∷ later ≡ map decimal all
   go behind None e g = cc
-  go behind (Some hint) e g = hint_more hints hint word later found (number_is NUMBER word hint number_small e) (behind hint g)
+  go behind (Some hint) e g = hint_more hints hint word later all (number_is NUMBER word hint number_small e) (behind hint g)
 
-derived_line_is : (literals : List NamedLiteral) (hints : List ℕ) (found : NamedLine) → derived_line literals hints ≡ Some found
-    → words_of (line.Derived literals hints) ≡ words_of found
-derived_line_is literals hints found h = elim (cases_Bool (is_some_hint hints && are_distinct literals)) [
-  | inl e ↦ let same : line.Derived literals hints ≡ found = cc (rw e at h) in ap words_of same
+derived_line_is : (literals : List NamedLiteral) (hints : List ℕ) (line_read : NamedLine) → derived_line literals hints ≡ Some line_read
+    → words_of (line.Derived literals hints) ≡ words_of line_read
+derived_line_is literals hints line_read h = elim (cases_Bool (is_some_hint hints && are_distinct literals)) [
+  | inl e ↦ let same : line.Derived literals hints ≡ line_read = cc (rw e at h) in ap words_of same
   | inr e ↦ cc (rw e at h)
 ]
 
@@ -245,58 +245,58 @@ derived_line_is literals hints found h = elim (cases_Bool (is_some_hint hints &&
 abbrev derived_words : List NamedLiteral → List (List ℕ) → List (List ℕ)
 derived_words literals behind = codes "derive" ∷ flat_map literal_words literals ++ behind
 
-hinted_is : (literals : List NamedLiteral) (words : List (List ℕ)) (found : NamedLine) → hinted_line literals words ≡ Some found
-    → derived_words literals (codes ":" ∷ words) ≡ words_of found
-hinted_is literals words found h = go (hints_from [] words) refl h where
-  go : (read : Option (List ℕ)) → hints_from [] words ≡ read → option_and_then (λ hints. derived_line literals hints) read ≡ Some found
-      → derived_words literals (codes ":" ∷ words) ≡ words_of found
+hinted_is : (literals : List NamedLiteral) (words : List (List ℕ)) (line_read : NamedLine) → hinted_line literals words ≡ Some line_read
+    → derived_words literals (codes ":" ∷ words) ≡ words_of line_read
+hinted_is literals words line_read h = go (hints_from [] words) refl h where
+  go : (read : Option (List ℕ)) → hints_from [] words ≡ read → option_and_then (λ hints. derived_line literals hints) read ≡ Some line_read
+      → derived_words literals (codes ":" ∷ words) ≡ words_of line_read
   go None e g = cc
   go (Some hints) e g =
-      ap (λ (ws : List (List ℕ)). derived_words literals (codes ":" ∷ ws)) (hints_are [] words hints e) ∙ derived_line_is literals hints found g
+      ap (λ (ws : List (List ℕ)). derived_words literals (codes ":" ∷ ws)) (hints_are [] words hints e) ∙ derived_line_is literals hints line_read g
 
-literal_more : (literals : List NamedLiteral) (literal : NamedLiteral) (word version : List ℕ) (later : List (List ℕ)) (found : NamedLine)
+literal_more : (literals : List NamedLiteral) (literal : NamedLiteral) (word version : List ℕ) (later : List (List ℕ)) (line_read : NamedLine)
     → literal_of word version ≡ Some literal
-    → derived_words (literals ++ literal ∷ []) later ≡ words_of found → derived_words literals (word ∷ version ∷ later) ≡ words_of found
-literal_more literals literal word version later found is behind =
+    → derived_words (literals ++ literal ∷ []) later ≡ words_of line_read → derived_words literals (word ∷ version ∷ later) ≡ words_of line_read
+literal_more literals literal word version later line_read is behind =
     ap (derived_words literals) (literal_is word version later literal is)
     ∙ ap (λ (ws : List (List ℕ)). codes "derive" ∷ ws) (sym (append_assoc (flat_map literal_words literals) (literal_words literal) later))
     ∙ ap (λ (ws : List (List ℕ)). codes "derive" ∷ (flat_map literal_words literals ++ ws) ++ later) (sym (append-nil (literal_words literal)))
     ∙ ap (λ (ws : List (List ℕ)). codes "derive" ∷ ws ++ later) (sym (flat_map-append literal_words literals (literal ∷ [])))
     ∙ behind
 
-derived_is : (literals : List NamedLiteral) (words : List (List ℕ)) (found : NamedLine) → derived_from literals words ≡ Some found
-    → derived_words literals words ≡ words_of found
-derived_is literals [] found h = cc
-derived_is literals (word ∷ []) found h = cc
-derived_is literals (word ∷ next ∷ later) found h = elim (cases_Bool (bytes_eq word (codes ":"))) [
-  | inl e ↦ ap (λ (w : List ℕ). derived_words literals (w ∷ next ∷ later)) (bytes_eq-true word (codes ":") e) ∙ hinted_is literals (next ∷ later) found (rw e at h)
-  | inr e ↦ go (λ literal g. derived_is (literals ++ literal ∷ []) later found g) (literal_of word next) refl (rw e at h)
+derived_is : (literals : List NamedLiteral) (words : List (List ℕ)) (line_read : NamedLine) → derived_from literals words ≡ Some line_read
+    → derived_words literals words ≡ words_of line_read
+derived_is literals [] line_read h = cc
+derived_is literals (word ∷ []) line_read h = cc
+derived_is literals (word ∷ next ∷ later) line_read h = elim (cases_Bool (bytes_eq word (codes ":"))) [
+  | inl e ↦ ap (λ (w : List ℕ). derived_words literals (w ∷ next ∷ later)) (bytes_eq-true word (codes ":") e) ∙ hinted_is literals (next ∷ later) line_read (rw e at h)
+  | inr e ↦ go (λ literal g. derived_is (literals ++ literal ∷ []) later line_read g) (literal_of word next) refl (rw e at h)
 ] where
-  go : ((literal : NamedLiteral) → derived_from (literals ++ literal ∷ []) later ≡ Some found → derived_words (literals ++ literal ∷ []) later ≡ words_of found)
-      → (read : Option NamedLiteral) → literal_of word next ≡ read → option_and_then (λ literal. derived_from (literals ++ literal ∷ []) later) read ≡ Some found
-      → derived_words literals (word ∷ next ∷ later) ≡ words_of found
+  go : ((literal : NamedLiteral) → derived_from (literals ++ literal ∷ []) later ≡ Some line_read → derived_words (literals ++ literal ∷ []) later ≡ words_of line_read)
+      → (read : Option NamedLiteral) → literal_of word next ≡ read → option_and_then (λ literal. derived_from (literals ++ literal ∷ []) later) read ≡ Some line_read
+      → derived_words literals (word ∷ next ∷ later) ≡ words_of line_read
   go behind None e g = cc
-  go behind (Some literal) e g = literal_more literals literal word next later found e (behind literal g)
+  go behind (Some literal) e g = literal_more literals literal word next later line_read e (behind literal g)
 
 -- Lines
 
-line_by_is : (kind : List ℕ) (words : List (List ℕ)) (found : NamedLine) → line_by kind words ≡ Some found → kind ∷ words ≡ words_of found
-line_by_is kind words found h = elim (cases_Bool (bytes_eq kind (codes "derive"))) [
-  | inl e ↦ ap (λ (k : List ℕ). k ∷ words) (bytes_eq-true kind (codes "derive") e) ∙ derived_is [] words found (rw e at h)
+line_by_is : (kind : List ℕ) (words : List (List ℕ)) (line_read : NamedLine) → line_by kind words ≡ Some line_read → kind ∷ words ≡ words_of line_read
+line_by_is kind words line_read h = elim (cases_Bool (bytes_eq kind (codes "derive"))) [
+  | inl e ↦ ap (λ (k : List ℕ). k ∷ words) (bytes_eq-true kind (codes "derive") e) ∙ derived_is [] words line_read (rw e at h)
   | inr e ↦ go (premise_by kind words) refl (rw e at h)
 ] where
-  go : (read : Option NamedPremise) → premise_by kind words ≡ read → option_map (λ premise. line.Premise premise) read ≡ Some found → kind ∷ words ≡ words_of found
+  go : (read : Option NamedPremise) → premise_by kind words ≡ read → option_map (λ premise. line.Premise premise) read ≡ Some line_read → kind ∷ words ≡ words_of line_read
   go None e g = cc
   go (Some premise) e g =
-      let same : line.Premise premise ≡ found = cc in
+      let same : line.Premise premise ≡ line_read = cc in
       premise_is kind words premise e ∙ ap words_of same
 
-words_are : (words : List (List ℕ)) (found : NamedLine) → line_of_words words ≡ Some found → words ≡ words_of found
-words_are [] found h = cc
-words_are (kind ∷ words) found h = line_by_is kind words found h
+words_are : (words : List (List ℕ)) (line_read : NamedLine) → line_of_words words ≡ Some line_read → words ≡ words_of line_read
+words_are [] line_read h = cc
+words_are (kind ∷ words) line_read h = line_by_is kind words line_read h
 
 -- a text that is read as a line is the line's
-pub line_is : (text : List ℕ) (found : NamedLine) → line_of text ≡ Some found → text ++ 10 ∷ [] ≡ line_text found
+pub line_is : (text : List ℕ) (line_read : NamedLine) → line_of text ≡ Some line_read → text ++ 10 ∷ [] ≡ line_text line_read
 unfolding line_of line_text
-line_is text found h = ap (λ (written : List ℕ). written ++ 10 ∷ [])
-    (sym (join_with_byte-slice_split 32 text) ∙ ap (join_with_byte 32) (words_are (parts_at 32 text) found h))
+line_is text line_read h = ap (λ (written : List ℕ). written ++ 10 ∷ [])
+    (sym (join_with_byte-slice_split 32 text) ∙ ap (join_with_byte 32) (words_are (parts_at 32 text) line_read h))

@@ -31,14 +31,14 @@ any_seen key (other ∷ later) = rw (key_same key.0 other.0 key.1 key.2 other.1 
 -- a literal that is among the earlier ones isn't new
 pub repeated : (literals : List NamedLiteral) (i : ℕ) (x : NamedLiteral) (seen : List NamedLiteral) → drop i literals ≡ x ∷ drop (i + 1) literals
     → seen ≡ take i literals → list_any (is_same x) seen ≡ true → are_new (take i literals) (drop i literals) ≡ false
-repeated literals i x seen here kept found =
-    let among : list_any (is_same x) (take i literals) ≡ true = ap (list_any (is_same x)) (sym kept) ∙ found in
+repeated literals i x seen here kept is =
+    let among : list_any (is_same x) (take i literals) ≡ true = ap (list_any (is_same x)) (sym kept) ∙ is in
     ap (are_new (take i literals)) here ∙ rw among refl
 
 -- a literal that isn't among the earlier ones is new
 pub fresh : (literals : List NamedLiteral) (i : ℕ) (x : NamedLiteral) (seen : List NamedLiteral) → drop i literals ≡ x ∷ drop (i + 1) literals
     → take (i + 1) literals ≡ take i literals ++ x ∷ [] → seen ≡ take i literals → list_any (is_same x) seen ≡ false
     → are_new (take (i + 1) literals) (drop (i + 1) literals) ≡ are_new (take i literals) (drop i literals)
-fresh literals i x seen here more kept found =
-    let among : list_any (is_same x) (take i literals) ≡ false = ap (list_any (is_same x)) (sym kept) ∙ found in
+fresh literals i x seen here more kept is =
+    let among : list_any (is_same x) (take i literals) ≡ false = ap (list_any (is_same x)) (sym kept) ∙ is in
     sym (ap (are_new (take i literals)) here ∙ rw among (ap (λ (earlier : List NamedLiteral). are_new earlier (drop (i + 1) literals)) (sym more)))

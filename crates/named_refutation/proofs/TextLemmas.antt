@@ -29,7 +29,7 @@ index_by_is sum (b ∷ first ∷ path) index h = elim (cases_Bool (eqb b 32 && i
   | inl e ↦
       let same : of sum (first ∷ path) ≡ index = cc (rw e at h) in
       ap (λ (space : ℕ). sum ++ space ∷ first ∷ path) (eqb-true b 32 (and_parts (eqb b 32) (is_sum sum) e).0)
-      ∙ ap (λ (found : IndexLine). found.sum ++ 32 ∷ found.path) same
+      ∙ ap (λ (line_read : IndexLine). line_read.sum ++ 32 ∷ line_read.path) same
   | inr e ↦ cc (rw e at h)
 ] where
   of : List ℕ → List ℕ → IndexLine
@@ -63,7 +63,7 @@ cut_is (text ∷ next ∷ later) = go (index_of text) refl (cut_is (next ∷ lat
   rest : List IndexLine × List (List ℕ)
   rest = cut_indices (next ∷ later)
 
-  go : (found : Option IndexLine) → index_of text ≡ found
+  go : (line_read : Option IndexLine) → index_of text ≡ line_read
       → join_with_byte 10 (next ∷ later) ≡ flat_map index_text (cut_indices (next ∷ later)).0 ++ join_with_byte 10 (cut_indices (next ∷ later)).1
       → join_with_byte 10 (text ∷ next ∷ later) ≡ flat_map index_text (cut_indices (text ∷ next ∷ later)).0 ++ join_with_byte 10 (cut_indices (text ∷ next ∷ later)).1
   go None e behind = rw e refl
@@ -74,22 +74,22 @@ cut_is (text ∷ next ∷ later) = go (index_of text) refl (cut_is (next ∷ lat
 
 -- Lines
 
-numbered_line_is : (before number : ℕ) (read : Option NamedLine) (found : NamedLine) → numbered_line before number read ≡ Ok found → read ≡ Some found
-numbered_line_is before number None found h = cc
-numbered_line_is before number (Some other) found h = elim (cases_Bool (ltb LINES number || is_wide other)) [ inl e ↦ cc (rw e at h) | inr e ↦ cc (rw e at h) ]
+numbered_line_is : (before number : ℕ) (read : Option NamedLine) (line_read : NamedLine) → numbered_line before number read ≡ Ok line_read → read ≡ Some line_read
+numbered_line_is before number None line_read h = cc
+numbered_line_is before number (Some other) line_read h = elim (cases_Bool (ltb LINES number || is_wide other)) [ inl e ↦ cc (rw e at h) | inr e ↦ cc (rw e at h) ]
 
 -- the line that was read, and the lines behind it
 record Puts (read : Result NamedLine RefutationFault) (later : Result (List NamedLine) RefutationFault) (lines : List NamedLine) : Type 0 where
-  found : NamedLine
+  line_read : NamedLine
   more : List NamedLine
-  here : read ≡ Ok found
+  here : read ≡ Ok line_read
   behind : later ≡ Ok more
-  all : lines ≡ found ∷ more
+  all : lines ≡ line_read ∷ more
 
 puts : (read : Result NamedLine RefutationFault) (later : Result (List NamedLine) RefutationFault) (lines : List NamedLine)
     → put_line read later ≡ Ok lines → Puts read later lines
-puts (Ok found) (Ok more) lines h = record { found = found; more = more; here = refl; behind = refl; all = cc }
-puts (Ok found) (Err fault) lines h = cc
+puts (Ok line_read) (Ok more) lines h = record { line_read = line_read; more = more; here = refl; behind = refl; all = cc }
+puts (Ok line_read) (Err fault) lines h = cc
 puts (Err fault) later lines h = cc
 
 -- where nothing is refused behind the end, nothing stands there
@@ -104,13 +104,13 @@ abbrev pub ended : ℕ → List NamedLine → List ℕ
 ended count lines = flat_map line_text lines ++ (end_line (count + length lines) ++ 10 ∷ [])
 
 -- the text of a line before those of more lines and the line that ends them
-before_more : (count : ℕ) (text later : List ℕ) (found : NamedLine) (more lines : List NamedLine) → lines ≡ found ∷ more
-    → text ++ 10 ∷ [] ≡ line_text found → later ≡ ended (count + 1) more → text ++ 10 ∷ later ≡ ended count lines
-before_more count text later found more lines all here behind =
+before_more : (count : ℕ) (text later : List ℕ) (line_read : NamedLine) (more lines : List NamedLine) → lines ≡ line_read ∷ more
+    → text ++ 10 ∷ [] ≡ line_text line_read → later ≡ ended (count + 1) more → text ++ 10 ∷ later ≡ ended count lines
+before_more count text later line_read more lines all here behind =
     let end = end_line ((count + 1) + length more) ++ 10 ∷ [] in
     let same : (count + 1) + length more ≡ count + length lines = omega (arith, ap length all) in
-    line_before text (line_text found) (flat_map line_text more ++ end) later here behind
-    ∙ sym (append_assoc (line_text found) (flat_map line_text more) end)
+    line_before text (line_text line_read) (flat_map line_text more ++ end) later here behind
+    ∙ sym (append_assoc (line_text line_read) (flat_map line_text more) end)
     ∙ sym (ap (λ (put : List NamedLine). flat_map line_text put ++ end) all)
     ∙ ap (λ n. flat_map line_text lines ++ (end_line n ++ 10 ∷ [])) same
 
@@ -132,8 +132,8 @@ lines_are before count (text ∷ next ∷ later) lines h = elim (cases_Bool (byt
       before_nothing count text (join_with_byte 10 (next ∷ later)) lines (bytes_eq-true text (end_line count) e) nothing.0 nothing.1
   | inr e ↦
       let put = puts (line_in_text before (count + 1) text) (read_lines before (count + 1) (next ∷ later)) lines (rw e at h) in
-      before_more count text (join_with_byte 10 (next ∷ later)) put.found put.more lines put.all
-      (line_is text put.found (numbered_line_is before (count + 1) (line_of text) put.found put.here))
+      before_more count text (join_with_byte 10 (next ∷ later)) put.line_read put.more lines put.all
+      (line_is text put.line_read (numbered_line_is before (count + 1) (line_of text) put.line_read put.here))
       (lines_are before (count + 1) (next ∷ later) put.more put.behind)
 ]
 

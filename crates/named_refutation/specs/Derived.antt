@@ -38,7 +38,7 @@ is_same (Unselected pair) (Unselected other) = is_same_pair pair other
 -- none of the literals is among those before it, nor among these earlier ones
 abbrev pub are_new : List NamedLiteral → List NamedLiteral → Bool
 are_new earlier [] = true
-are_new earlier (found ∷ later) = not (list_any (is_same found) earlier) && are_new (earlier ++ found ∷ []) later
+are_new earlier (literal ∷ later) = not (list_any (is_same literal) earlier) && are_new (earlier ++ literal ∷ []) later
 
 -- no literal stands there twice
 abbrev pub are_distinct : List NamedLiteral → Bool
@@ -58,4 +58,4 @@ derived_from literals [] = None
 derived_from literals (word ∷ []) = None
 derived_from literals (word ∷ next ∷ later) =
     if bytes_eq word (codes ":") then hinted_line literals (next ∷ later)
-    else option_and_then (λ found. derived_from (literals ++ found ∷ []) later) (literal_of word next)
+    else option_and_then (λ literal. derived_from (literals ++ literal ∷ []) later) (literal_of word next)

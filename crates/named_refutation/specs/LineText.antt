@@ -57,7 +57,7 @@ words_of (line.Derived literals hints) = codes "derive" ∷ flat_map literal_wor
 
 -- the line with its newline
 unfoldable pub line_text : NamedLine → List ℕ
-line_text found = join_with_byte SPACE (words_of found) ++ NEWLINE ∷ []
+line_text line = join_with_byte SPACE (words_of line) ++ NEWLINE ∷ []
 
 -- each number of the premise is in its range
 abbrev pub is_premise_in_range : NamedPremise → Bool

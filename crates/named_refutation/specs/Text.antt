@@ -32,12 +32,12 @@ is_wide (line.Derived literals hints) = nat_lt WIDTH (length literals) || nat_lt
 
 -- this line of this number, unless it is one too many or too wide
 abbrev pub counted_line : ℕ → NamedLine → Result NamedLine RefutationFault
-counted_line number found = if nat_lt LINES number || is_wide found then Err TooLarge else Ok found
+counted_line number line = if nat_lt LINES number || is_wide line then Err TooLarge else Ok line
 
 -- the line of this number, if the text was one: so many lines of another kind stand before the first
 abbrev pub numbered_line : ℕ → ℕ → Option NamedLine → Result NamedLine RefutationFault
 numbered_line before number None = Err (BadRefutation (before + number))
-numbered_line before number (Some found) = counted_line number found
+numbered_line before number (Some line) = counted_line number line
 
 -- the line of this number in its text, which has its newline
 abbrev pub line_in_text : ℕ → ℕ → List ℕ → Result NamedLine RefutationFault
@@ -50,7 +50,7 @@ put_lines lines (Err fault) = Err fault
 
 -- the line that is read, before those that are read behind it
 abbrev pub put_line : Result NamedLine RefutationFault → Result (List NamedLine) RefutationFault → Result (List NamedLine) RefutationFault
-put_line (Ok found) later = put_lines (found ∷ []) later
+put_line (Ok line) later = put_lines (line ∷ []) later
 put_line (Err fault) later = Err fault
 
 -- behind the last line, which has this place in the text, nothing may stand: a further one is refused, with its newline or without
@@ -117,7 +117,7 @@ pub record IsWritable (refutation : NamedRefutation) : Type 0 where
 pub record IsWithinLimits (refutation : NamedRefutation) (text : List ℕ) : Type 0 where
   pub small : length text ≤ TEXT_BYTES
   pub few : length refutation.lines ≤ LINES
-  pub narrow : list_all (λ found. not (is_wide found)) refutation.lines ≡ true
+  pub narrow : list_all (λ line. not (is_wide line)) refutation.lines ≡ true
 
 -- the text is read as this refutation, if it can be written and is within the limits
 abbrev pub IsReadAs : NamedRefutation → List ℕ → Type 0

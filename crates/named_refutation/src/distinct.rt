@@ -38,8 +38,10 @@ impl<'l> Seen<'l> {
 
     // Adds the literal that the pair is selected, and answers whether it is new.
     fn add_selected(&mut self, pair: &'l NamedPair) -> Result<bool, AllocError>
-        ensures fresh { IfOk result (λ is_new. is_new ≡ not (list_any (is_same (Selected pair.now)) self.old)) }
-        ensures kept { IfOk result (λ is_new. is_new ≡ true → self.new ≡ self.old ++ Selected pair.now ∷ []) }
+        ensures fresh { IfOk result
+            (λ is_new. is_new ≡ not (list_any (is_same (Selected pair.now)) self.old)) }
+        ensures kept { IfOk result
+            (λ is_new. is_new ≡ true → self.new ≡ self.old ++ Selected pair.now ∷ []) }
     {
         Ok(
             self.keys
@@ -49,8 +51,10 @@ impl<'l> Seen<'l> {
 
     // Adds the literal that the pair isn't selected, and answers whether it is new.
     fn add_unselected(&mut self, pair: &'l NamedPair) -> Result<bool, AllocError>
-        ensures fresh { IfOk result (λ is_new. is_new ≡ not (list_any (is_same (Unselected pair.now)) self.old)) }
-        ensures kept { IfOk result (λ is_new. is_new ≡ true → self.new ≡ self.old ++ Unselected pair.now ∷ []) }
+        ensures fresh { IfOk result
+            (λ is_new. is_new ≡ not (list_any (is_same (Unselected pair.now)) self.old)) }
+        ensures kept { IfOk result
+            (λ is_new. is_new ≡ true → self.new ≡ self.old ++ Unselected pair.now ∷ []) }
     {
         Ok(
             self.keys
@@ -60,8 +64,10 @@ impl<'l> Seen<'l> {
 
     // Adds the literal, and answers whether it is new.
     fn add(&mut self, literal: &'l NamedLiteral) -> Result<bool, AllocError>
-        ensures fresh { IfOk result (λ is_new. is_new ≡ not (list_any (is_same literal.now) self.old)) }
-        ensures kept { IfOk result (λ is_new. is_new ≡ true → self.new ≡ self.old ++ literal.now ∷ []) }
+        ensures fresh { IfOk result
+            (λ is_new. is_new ≡ not (list_any (is_same literal.now) self.old)) }
+        ensures kept { IfOk result
+            (λ is_new. is_new ≡ true → self.new ≡ self.old ++ literal.now ∷ []) }
     {
         match literal {
             NamedLiteral::Selected(pair) => self.add_selected(pair),
@@ -72,7 +78,7 @@ impl<'l> Seen<'l> {
 
 /// Whether no literal stands there twice. Linear in the literals, by hashing.
 pub(crate) fn are_distinct(alloc: Global, literals: &[NamedLiteral]) -> Result<bool, AllocError>
-    ensures { IfOk result (λ found. found ≡ are_distinct literals.now) }
+    ensures { IfOk result (λ distinct. distinct ≡ are_distinct literals.now) }
 {
     let mut seen = Seen::new(alloc);
     for literal in literals {

@@ -7,5 +7,6 @@ ghost use Rattle.named_refutation.specs.declared.named.NamedRefutation.{NamedRef
 /// A text that is read as a refutation is the text of the refutation that it is read as: no two texts are read as the same
 /// refutation.
 pub fn a_named_refutation_is_the_text_of_its_lines()
-    ensures { (text : List ℕ) (refutation : NamedRefutation) → read_named text ≡ Ok refutation → text ≡ named_text refutation }
+    ensures { (text : List ℕ) (refutation : NamedRefutation) → read_named text ≡ Ok refutation
+        → text ≡ named_text refutation }
 {}

@@ -63,7 +63,8 @@ pub(crate) fn only_pair(
 /// The first two words that are left, and what is left behind them.
 pub(crate) fn first_two(words: Option<&[u8]>) -> Option<(&[u8], &[u8], Option<&[u8]>)>
     ensures { MatchOption result (first_two (parts_left SPACE words.entry) ≡ None)
-        (λ cut. first_two (parts_left SPACE words.entry) ≡ Some (cut.0.now, cut.1.now, parts_left SPACE cut.2)) }
+        (λ cut. first_two (parts_left SPACE words.entry)
+        ≡ Some (cut.0.now, cut.1.now, parts_left SPACE cut.2)) }
 {
     let Some(rest) = words else {
         return None;

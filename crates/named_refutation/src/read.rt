@@ -94,8 +94,10 @@ fn check_end(place: usize, rest: &[u8]) -> Result<(), RefutationFault>
 // The lines before the line that ends so many.
 fn read_lines(alloc: Global, before: usize, texts: &[u8]) -> Result<Vec<NamedLine>, RefutationError>
     requires { before ≤ TEXT_BYTES + 1 }
-    ensures ok { IfOk result (λ lines. read_lines before 0 (parts_at NEWLINE texts.now) ≡ Ok lines.items) }
-    ensures err { IfErr result (λ e. IsRefutationFault e (read_lines before 0 (parts_at NEWLINE texts.now))) }
+    ensures ok { IfOk result
+        (λ lines. read_lines before 0 (parts_at NEWLINE texts.now) ≡ Ok lines.items) }
+    ensures err { IfErr result
+        (λ e. IsRefutationFault e (read_lines before 0 (parts_at NEWLINE texts.now))) }
 {
     let mut lines = Vec::new(alloc);
     let mut rest = texts;
@@ -118,8 +120,10 @@ fn read_behind(
     texts: &[u8],
 ) -> Result<NamedRefutation, RefutationError>
     requires { length indices.items ≤ TEXT_BYTES }
-    ensures ok { IfOk result (λ refutation. read_behind (indices.items, parts_at NEWLINE texts.now) ≡ Ok refutation) }
-    ensures err { IfErr result (λ e. IsRefutationFault e (read_behind (indices.items, parts_at NEWLINE texts.now))) }
+    ensures ok { IfOk result
+        (λ refutation. read_behind (indices.items, parts_at NEWLINE texts.now) ≡ Ok refutation) }
+    ensures err { IfErr result
+        (λ e. IsRefutationFault e (read_behind (indices.items, parts_at NEWLINE texts.now))) }
 {
     let lines = read_lines(alloc, indices.len() + 1, texts)?;
     Ok(NamedRefutation {
@@ -131,8 +135,10 @@ fn read_behind(
 // The refutation of the lines behind the header.
 fn read_texts(alloc: Global, texts: &[u8]) -> Result<NamedRefutation, RefutationError>
     requires { length texts.now ≤ TEXT_BYTES }
-    ensures ok { IfOk result (λ refutation. read_behind (cut_indices (parts_at NEWLINE texts.now)) ≡ Ok refutation) }
-    ensures err { IfErr result (λ e. IsRefutationFault e (read_behind (cut_indices (parts_at NEWLINE texts.now)))) }
+    ensures ok { IfOk result
+        (λ refutation. read_behind (cut_indices (parts_at NEWLINE texts.now)) ≡ Ok refutation) }
+    ensures err { IfErr result
+        (λ e. IsRefutationFault e (read_behind (cut_indices (parts_at NEWLINE texts.now)))) }
 {
     let mut indices = Vec::new(alloc);
     let mut rest = texts;

@@ -35,7 +35,8 @@ fn push_number(text: &mut Vec<u8>, number: u32) -> Result<(), AllocError>
 
 // Writes a space and the version behind the text, and a space and the name before it.
 fn push_pair(text: &mut Vec<u8>, pair: &NamedPair) -> Result<(), AllocError>
-    ensures written { OnOk result (text.new.items ≡ text.old.items ++ SPACE ∷ pair.now.name ++ SPACE ∷ pair.now.version) }
+    ensures written { OnOk result
+        (text.new.items ≡ text.old.items ++ SPACE ∷ pair.now.name ++ SPACE ∷ pair.now.version) }
     ensures named { OnOk result (is_pair pair.now ≡ true) }
 {
     push_word(text, pair.name.as_bytes())?;
@@ -44,7 +45,9 @@ fn push_pair(text: &mut Vec<u8>, pair: &NamedPair) -> Result<(), AllocError>
 
 // Writes a kind and a pair behind the text.
 fn push_paired(text: &mut Vec<u8>, kind: &[u8], pair: &NamedPair) -> Result<(), AllocError>
-    ensures written { OnOk result (text.new.items ≡ text.old.items ++ join_with_byte SPACE (kind.now ∷ pair.now.name ∷ pair.now.version ∷ [])) }
+    ensures written { OnOk result
+        (text.new.items ≡ text.old.items
+        ++ join_with_byte SPACE (kind.now ∷ pair.now.name ∷ pair.now.version ∷ [])) }
     ensures named { OnOk result (is_pair pair.now ≡ true) }
 {
     text.extend_from_slice(kind)?;
@@ -59,7 +62,9 @@ fn push_two(
     other: &NamedPair,
 ) -> Result<(), AllocError>
     ensures written { OnOk result (text.new.items ≡ text.old.items
-        ++ join_with_byte SPACE (kind.now ∷ pair.now.name ∷ pair.now.version ∷ other.now.name ∷ other.now.version ∷ [])) }
+        ++ join_with_byte SPACE
+        (kind.now ∷ pair.now.name ∷ pair.now.version ∷ other.now.name ∷ other.now.version
+        ∷ [])) }
     ensures named { OnOk result (is_pair pair.now ≡ true) }
     ensures other_named { OnOk result (is_pair other.now ≡ true) }
 {
@@ -75,7 +80,8 @@ fn push_clause(
     clause: u32,
 ) -> Result<(), AllocError>
     ensures written { OnOk result (text.new.items ≡ text.old.items
-        ++ join_with_byte SPACE (kind.now ∷ pair.now.name ∷ pair.now.version ∷ decimal clause ∷ [])) }
+        ++ join_with_byte SPACE
+        (kind.now ∷ pair.now.name ∷ pair.now.version ∷ decimal clause ∷ [])) }
     ensures named { OnOk result (is_pair pair.now ≡ true) }
 {
     push_paired(text, kind, pair)?;
@@ -84,7 +90,9 @@ fn push_clause(
 
 // Writes a goal's premise behind the text.
 fn push_goal(text: &mut Vec<u8>, goal: u32) -> Result<(), AllocError>
-    ensures { OnOk result (text.new.items ≡ text.old.items ++ join_with_byte SPACE (codes "goal" ∷ decimal goal ∷ [])) }
+    ensures { OnOk result
+        (text.new.items ≡ text.old.items
+        ++ join_with_byte SPACE (codes "goal" ∷ decimal goal ∷ [])) }
 {
     text.extend_from_slice(b"goal")?;
     push_number(text, goal)
@@ -93,7 +101,8 @@ fn push_goal(text: &mut Vec<u8>, goal: u32) -> Result<(), AllocError>
 // Writes the premise of a goal and of a pair behind the text.
 fn push_goal_on(text: &mut Vec<u8>, goal: u32, pair: &NamedPair) -> Result<(), AllocError>
     ensures written { OnOk result (text.new.items ≡ text.old.items
-        ++ join_with_byte SPACE (codes "goal" ∷ decimal goal ∷ pair.now.name ∷ pair.now.version ∷ [])) }
+        ++ join_with_byte SPACE
+        (codes "goal" ∷ decimal goal ∷ pair.now.name ∷ pair.now.version ∷ [])) }
     ensures named { OnOk result (is_pair pair.now ≡ true) }
 {
     push_goal(text, goal)?;
@@ -102,7 +111,8 @@ fn push_goal_on(text: &mut Vec<u8>, goal: u32, pair: &NamedPair) -> Result<(), A
 
 // Writes a kind and its name behind the text.
 fn push_named(text: &mut Vec<u8>, kind: &[u8], name: &Name) -> Result<(), AllocError>
-    ensures written { OnOk result (text.new.items ≡ text.old.items ++ join_with_byte SPACE (kind.now ∷ name.now ∷ [])) }
+    ensures written { OnOk result
+        (text.new.items ≡ text.old.items ++ join_with_byte SPACE (kind.now ∷ name.now ∷ [])) }
     ensures named { OnOk result (is_name name.now ≡ true) }
 {
     text.extend_from_slice(kind)?;
@@ -111,7 +121,8 @@ fn push_named(text: &mut Vec<u8>, kind: &[u8], name: &Name) -> Result<(), AllocE
 
 // Writes the words of a premise behind the text.
 fn push_premise(text: &mut Vec<u8>, premise: &NamedPremise) -> Result<(), AllocError>
-    ensures written { OnOk result (text.new.items ≡ text.old.items ++ join_with_byte SPACE (premise_words premise.now)) }
+    ensures written { OnOk result
+        (text.new.items ≡ text.old.items ++ join_with_byte SPACE (premise_words premise.now)) }
     ensures named { OnOk result (is_premise_named premise.now ≡ true) }
 {
     match premise {
@@ -130,7 +141,9 @@ fn push_premise(text: &mut Vec<u8>, premise: &NamedPremise) -> Result<(), AllocE
 
 // Writes a space, a minus and the pair behind the text.
 fn push_unselected(text: &mut Vec<u8>, pair: &NamedPair) -> Result<(), AllocError>
-    ensures written { OnOk result (text.new.items ≡ text.old.items ++ SPACE ∷ 45 ∷ pair.now.name ++ SPACE ∷ pair.now.version) }
+    ensures written { OnOk result
+        (text.new.items ≡ text.old.items ++ SPACE ∷ 45 ∷ pair.now.name ++ SPACE
+        ∷ pair.now.version) }
     ensures named { OnOk result (is_pair pair.now ≡ true) }
 {
     text.extend_from_slice(b" -")?;
@@ -140,7 +153,9 @@ fn push_unselected(text: &mut Vec<u8>, pair: &NamedPair) -> Result<(), AllocErro
 
 // Writes the words of a literal behind the text, a space before each.
 fn push_literal(text: &mut Vec<u8>, literal: &NamedLiteral) -> Result<(), AllocError>
-    ensures written { OnOk result (text.new.items ≡ text.old.items ++ flat_map (λ word. SPACE ∷ word) (literal_words literal.now)) }
+    ensures written { OnOk result
+        (text.new.items ≡ text.old.items
+        ++ flat_map (λ word. SPACE ∷ word) (literal_words literal.now)) }
     ensures named { OnOk result (is_literal literal.now ≡ true) }
 {
     match literal {
@@ -151,7 +166,8 @@ fn push_literal(text: &mut Vec<u8>, literal: &NamedLiteral) -> Result<(), AllocE
 
 fn push_literals(text: &mut Vec<u8>, literals: &[NamedLiteral]) -> Result<(), AllocError>
     ensures written { OnOk result (text.new.items ≡ text.old.items
-        ++ flat_map (λ literal. flat_map (λ word. SPACE ∷ word) (literal_words literal)) literals.now) }
+        ++ flat_map (λ literal.
+        flat_map (λ word. SPACE ∷ word) (literal_words literal)) literals.now) }
     ensures named { OnOk result (list_all is_literal literals.now ≡ true) }
 {
     for literal in literals {
@@ -161,7 +177,8 @@ fn push_literals(text: &mut Vec<u8>, literals: &[NamedLiteral]) -> Result<(), Al
 }
 
 fn push_hints(text: &mut Vec<u8>, hints: &[u32]) -> Result<(), AllocError>
-    ensures { OnOk result (text.new.items ≡ text.old.items ++ flat_map (λ hint. SPACE ∷ decimal hint) hints.now) }
+    ensures { OnOk result
+        (text.new.items ≡ text.old.items ++ flat_map (λ hint. SPACE ∷ decimal hint) hints.now) }
 {
     for hint in hints {
         push_number(text, *hint)?;
@@ -175,7 +192,9 @@ fn push_derived(
     literals: &[NamedLiteral],
     hints: &[u32],
 ) -> Result<(), AllocError>
-    ensures written { OnOk result (text.new.items ≡ text.old.items ++ join_with_byte SPACE (words_of (Derived literals.now hints.now))) }
+    ensures written { OnOk result
+        (text.new.items ≡ text.old.items
+        ++ join_with_byte SPACE (words_of (Derived literals.now hints.now))) }
     ensures named { OnOk result (list_all is_literal literals.now ≡ true) }
 {
     text.extend_from_slice(b"derive")?;
@@ -185,7 +204,8 @@ fn push_derived(
 }
 
 fn push_words(text: &mut Vec<u8>, line: &NamedLine) -> Result<(), AllocError>
-    ensures written { OnOk result (text.new.items ≡ text.old.items ++ join_with_byte SPACE (words_of line.now)) }
+    ensures written { OnOk result
+        (text.new.items ≡ text.old.items ++ join_with_byte SPACE (words_of line.now)) }
     ensures named { OnOk result (is_named line.now ≡ true) }
 {
     match line {
@@ -208,7 +228,8 @@ fn push_line(text: &mut Vec<u8>, line: &NamedLine) -> Result<(), AllocError>
 }
 
 fn push_lines(text: &mut Vec<u8>, lines: &[NamedLine]) -> Result<(), AllocError>
-    ensures written { OnOk result (text.new.items ≡ text.old.items ++ flat_map line_text lines.now) }
+    ensures written { OnOk result
+        (text.new.items ≡ text.old.items ++ flat_map line_text lines.now) }
     ensures named { OnOk result (list_all is_named lines.now ≡ true) }
 {
     for line in lines {

@@ -53,23 +53,23 @@ stanza_agrees inputs pair listed agree counts stanza =
     within : Contains (all_listed inputs.indices) listed
     within = found_in (λ (l : IndexPackage). is_of pair.pkg.name pair.pkg.version l.pkg) (all_listed inputs.indices) listed stanza
 
-    at : (found : Option Record) → standing_record inputs.start pair.pkg.name pair.pkg.version ≡ found
-        → option_or (option_map pkg_of found) (option_map (λ (l : IndexPackage). l.pkg) (index_package inputs.indices pair.pkg.name pair.pkg.version)) ≡ Some pair.pkg
+    at : (entry : Option Record) → standing_record inputs.start pair.pkg.name pair.pkg.version ≡ entry
+        → option_or (option_map pkg_of entry) (option_map (λ (l : IndexPackage). l.pkg) (index_package inputs.indices pair.pkg.name pair.pkg.version)) ≡ Some pair.pkg
         → listed.pkg.relations ≡ pair.pkg.relations
     at None was is = ap (λ (p : Pkg). p.relations) (same_Some listed.pkg pair.pkg
         (sym (ap (λ (o : Option IndexPackage). option_map (λ (l : IndexPackage). l.pkg) o) stanza) ∙ is))
-    at (Some found) was is =
-        let same : pkg_of found ≡ pair.pkg = same_Some (pkg_of found) pair.pkg is in
-        let passes = find_passes (λ (r : Record). is_named pair.pkg.name r && stands r && same_version r.version pair.pkg.version) inputs.start found was in
-        let among = found_in (λ (r : Record). is_named pair.pkg.name r && stands r && same_version r.version pair.pkg.version) inputs.start found was in
+    at (Some entry) was is =
+        let same : pkg_of entry ≡ pair.pkg = same_Some (pkg_of entry) pair.pkg is in
+        let passes = find_passes (λ (r : Record). is_named pair.pkg.name r && stands r && same_version r.version pair.pkg.version) inputs.start entry was in
+        let among = found_in (λ (r : Record). is_named pair.pkg.name r && stands r && same_version r.version pair.pkg.version) inputs.start entry was in
         let Of : Pkg → Type 0 = λ p. IsOf p.name p.version listed.pkg in
-        All-contains (λ (l : IndexPackage). IsOf found.name found.version l.pkg → l.pkg.relations ≡ found.relations) (all_listed inputs.indices) listed
+        All-contains (λ (l : IndexPackage). IsOf entry.name entry.version l.pkg → l.pkg.relations ≡ entry.relations) (all_listed inputs.indices) listed
         (All-contains (λ (r : Record). Stands r → All (λ (l : IndexPackage). IsOf r.name r.version l.pkg → l.pkg.relations ≡ r.relations) (all_listed inputs.indices))
-        inputs.start found agree among (standing found passes)) within (subst Of (sym same) is_listed)
+        inputs.start entry agree among (standing entry passes)) within (subst Of (sym same) is_listed)
         ∙ ap (λ (p : Pkg). p.relations) same
       where
-        standing : (found : Record) → (is_named pair.pkg.name found && stands found && same_version found.version pair.pkg.version) ≡ true → Stands found
-        standing found passes = middle (is_named pair.pkg.name found) (stands found) (same_version found.version pair.pkg.version) passes
+        standing : (entry : Record) → (is_named pair.pkg.name entry && stands entry && same_version entry.version pair.pkg.version) ≡ true → Stands entry
+        standing entry passes = middle (is_named pair.pkg.name entry) (stands entry) (same_version entry.version pair.pkg.version) passes
           where
             middle : (a b c : Bool) → (a && b && c) ≡ true → b ≡ true
             middle true true c is = refl

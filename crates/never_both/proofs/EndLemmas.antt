@@ -32,7 +32,7 @@ IsPaired u pkg = Any (λ pair. IsAlike pkg pair.pkg) u.pairs
 
 -- the record, if it stands, is of a pair's package
 abbrev pub IsOfPair : Universe → Record → Type 0
-IsOfPair u found = Stands found → IsPaired u (pkg_of found)
+IsOfPair u entry = Stands entry → IsPaired u (pkg_of entry)
 
 -- Tests
 
@@ -48,17 +48,17 @@ second_of : (a b c : Bool) → b ≡ true → c ≡ true → ((a || b) && c) ≡
 second_of true b c is also = also
 second_of false b c is also = rw (is, also) refl
 
-sound_of : (found : Record) → Stands found → HasSoundFlag found
-sound_of found is = (both (is_unconfigured_state found.state || is_installed_state found.state) (is_sound_flag found.flag) is).1
+sound_of : (entry : Record) → Stands entry → HasSoundFlag entry
+sound_of entry is = (both (is_unconfigured_state entry.state || is_installed_state entry.state) (is_sound_flag entry.flag) is).1
 
 -- Steps
 
 -- a change keeps what stands of pairs, where what it makes stand stood and is of the same package, or is of a pair
 changed_paired : (u : Universe) (test : Record → Bool) (change : Record → Record) (db : List Record)
-    → ((found : Record) → Contains db found → test found ≡ true → IsOfPair u found → IsOfPair u (change found))
+    → ((entry : Record) → Contains db entry → test entry ≡ true → IsOfPair u entry → IsOfPair u (change entry))
     → All (IsOfPair u) db → All (IsOfPair u) (changed test change db)
-changed_paired u test change db keeps paired = All-intro (IsOfPair u) (changed test change db) (λ found within.
-    let (old, there, same) = Contains-map (λ (r : Record). cond (test r) (change r) r) db found within in
+changed_paired u test change db keeps paired = All-intro (IsOfPair u) (changed test change db) (λ entry within.
+    let (old, there, same) = Contains-map (λ (r : Record). cond (test r) (change r) r) db entry within in
     subst (IsOfPair u) same (at old there (test old) refl))
   where
     at : (old : Record) → Contains db old → (b : Bool) → test old ≡ b → IsOfPair u (cond b (change old) old)
@@ -70,13 +70,13 @@ unpacked_paired : (u : Universe) (listed : IndexPackage) (db : List Record) → 
 unpacked_paired u listed db is paired = at (list_any (is_named listed.pkg.name) db)
   where
     at : (b : Bool) → All (IsOfPair u) (if b then changed (is_named listed.pkg.name) (unpacked_over listed) db else db ++ unpacked_with listed None ∷ [])
-    at true = changed_paired u (is_named listed.pkg.name) (unpacked_over listed) db (λ found within test was standing. is) paired
-    at false = All-intro (IsOfPair u) (db ++ unpacked_with listed None ∷ []) (λ found within.
-        elim (Contains-append_cases db (unpacked_with listed None ∷ []) found within) [
-          | inl old ↦ All-contains (IsOfPair u) db found paired old
-          | inr new ↦ elim (Contains-cons (unpacked_with listed None) [] found new) [
+    at true = changed_paired u (is_named listed.pkg.name) (unpacked_over listed) db (λ entry within test was standing. is) paired
+    at false = All-intro (IsOfPair u) (db ++ unpacked_with listed None ∷ []) (λ entry within.
+        elim (Contains-append_cases db (unpacked_with listed None ∷ []) entry within) [
+          | inl old ↦ All-contains (IsOfPair u) db entry paired old
+          | inr new ↦ elim (Contains-cons (unpacked_with listed None) [] entry new) [
             | inl same ↦ subst (IsOfPair u) same (λ standing. is)
-            | inr none ↦ absurd (Contains-nil found none)
+            | inr none ↦ absurd (Contains-nil entry none)
           ]
         ])
 
@@ -107,21 +107,21 @@ step_paired : (u : Universe) (start db : List Record) (taken : Step) → IsBuilt
 unfolding Allowed AreConfigurable HasConfigurable
 step_paired u start db (step.Unpack name version) built relations distinct allowed paired = at (listed_of u name version) refl
   where
-    at : (listed : Option IndexPackage) → listed_of u name version ≡ listed → All (IsOfPair u) (option_map_or (λ (found : IndexPackage). after_unpack found db) listed db)
+    at : (listed : Option IndexPackage) → listed_of u name version ≡ listed → All (IsOfPair u) (option_map_or (λ (stanza : IndexPackage). after_unpack stanza db) listed db)
     at None is = paired
     at (Some listed) is = unpacked_paired u listed db (listed_paired u u.pairs name version listed (pair_paired u start built relations) is) paired
 step_paired u start db (step.Deconfigure name) built relations distinct allowed paired = changed_paired u (is_named name) deconfigured db
-    (λ found within test was standing. was (second_of (is_unconfigured_state found.state) (is_installed_state found.state) (is_sound_flag found.flag)
-    (the_named IsInstalled db distinct name (allowed 0 rule.WrongState (lit< tt)) found within test) (sound_of (deconfigured found) standing))) paired
+    (λ entry within test was standing. was (second_of (is_unconfigured_state entry.state) (is_installed_state entry.state) (is_sound_flag entry.flag)
+    (the_named IsInstalled db distinct name (allowed 0 rule.WrongState (lit< tt)) entry within test) (sound_of (deconfigured entry) standing))) paired
 step_paired u start db (step.Configure names) built relations distinct allowed paired = changed_paired u (is_among names) configured db
-    (λ found within test was standing. was
-    (let both_are : IsConfigurable found = the_record IsConfigurable db distinct found within
-    (All-contains (λ (name : List ℕ). HasRecord IsConfigurable name db) names found.name (allowed 0 rule.WrongState (lit< tt)) (contains-is_among names found test)) in
-    first_of (is_unconfigured_state found.state) (is_installed_state found.state) (is_sound_flag found.flag) both_are.0 both_are.1)) paired
+    (λ entry within test was standing. was
+    (let both_are : IsConfigurable entry = the_record IsConfigurable db distinct entry within
+    (All-contains (λ (name : List ℕ). HasRecord IsConfigurable name db) names entry.name (allowed 0 rule.WrongState (lit< tt)) (contains-is_among names entry test)) in
+    first_of (is_unconfigured_state entry.state) (is_installed_state entry.state) (is_sound_flag entry.flag) both_are.0 both_are.1)) paired
 step_paired u start db (step.Remove name) built relations distinct allowed paired = changed_paired u (is_named name) removed db
-    (λ found within test was standing. absurd (let e : false ≡ true = standing in cc)) paired
-step_paired u start db (step.Purge name) built relations distinct allowed paired = All-intro (IsOfPair u) (filter (λ (found : Record). not (is_named name found)) db)
-    (λ found within. All-contains (IsOfPair u) db found paired (Contains-filter (λ (r : Record). not (is_named name r)) db found within).0)
+    (λ entry within test was standing. absurd (let e : false ≡ true = standing in cc)) paired
+step_paired u start db (step.Purge name) built relations distinct allowed paired = All-intro (IsOfPair u) (filter (λ (entry : Record). not (is_named name entry)) db)
+    (λ entry within. All-contains (IsOfPair u) db entry paired (Contains-filter (λ (r : Record). not (is_named name r)) db entry within).0)
 
 -- what stands behind a run is of a pair's package
 pub run_paired : (u : Universe) (start db finish : List Record) (steps : List Step) → IsBuiltOn start u → HasOneRelationsEach u
@@ -135,10 +135,10 @@ run_paired u start db finish (taken ∷ steps) built relations distinct run pair
 pub stands_at_end : (u : Universe) (finish : List Record) → IsGoodEnd u finish → All (IsOfPair u) finish → (pkg : Pkg)
     → Contains (installed_of finish) pkg → IsPaired u pkg
 stands_at_end u finish good paired pkg within =
-    let (found, among, same) = Contains-map pkg_of (filter (λ (r : Record). is_installed_state r.state) finish) pkg within in
-    let (there, installed) = Contains-filter (λ (r : Record). is_installed_state r.state) finish found among in
-    subst (IsPaired u) same (All-contains (IsOfPair u) finish found paired there
-    (standing found installed (All-contains (λ (r : Record). ¬ IsUnfinished r) finish found good.finished there)))
+    let (entry, among, same) = Contains-map pkg_of (filter (λ (r : Record). is_installed_state r.state) finish) pkg within in
+    let (there, installed) = Contains-filter (λ (r : Record). is_installed_state r.state) finish entry among in
+    subst (IsPaired u) same (All-contains (IsOfPair u) finish entry paired there
+    (standing entry installed (All-contains (λ (r : Record). ¬ IsUnfinished r) finish entry good.finished there)))
   where
     sound : (b c d : Bool) → d ≡ false → ¬ ((b || (not c && not d)) ≡ true) → c ≡ true
     sound b true d is none = refl
@@ -156,6 +156,6 @@ stands_at_end u finish good paired pkg within =
     installed_only states.TriggersPending is = refl
     installed_only states.Installed is = refl
 
-    standing : (found : Record) → is_installed_state found.state ≡ true → ¬ IsUnfinished found → Stands found
-    standing found installed none = second_of (is_unconfigured_state found.state) (is_installed_state found.state) (is_sound_flag found.flag) installed
-        (sound (is_unfinished_state found.state) (is_sound_flag found.flag) (is_not_installed_state found.state) (installed_only found.state installed) none)
+    standing : (entry : Record) → is_installed_state entry.state ≡ true → ¬ IsUnfinished entry → Stands entry
+    standing entry installed none = second_of (is_unconfigured_state entry.state) (is_installed_state entry.state) (is_sound_flag entry.flag) installed
+        (sound (is_unfinished_state entry.state) (is_sound_flag entry.flag) (is_not_installed_state entry.state) (installed_only entry.state installed) none)

@@ -31,18 +31,18 @@ use mathlib.Core.Logic.{inl, inr}
 -- what stands at the start is of a pair's package
 standing_paired : (u : Universe) (start : List Record) → IsBuiltOn start u → IsCounted start u → All (IsOfPair u) start
 unfolding HasPair
-standing_paired u start built counted = All-intro (IsOfPair u) start (λ found within standing.
-    Any-elim (λ (pair : Pair). IsOf found.name found.version pair.pkg) u.pairs (IsPaired u (pkg_of found))
+standing_paired u start built counted = All-intro (IsOfPair u) start (λ entry within standing.
+    Any-elim (λ (pair : Pair). IsOf entry.name entry.version pair.pkg) u.pairs (IsPaired u (pkg_of entry))
     (λ pair there of.
-    let same : pkg_of found ≡ pair.pkg = All-contains (HasItsPackage pair) start found
+    let same : pkg_of entry ≡ pair.pkg = All-contains (HasItsPackage pair) start entry
     (All-contains (λ (p : Pair). All (HasItsPackage p) start) u.pairs pair counted.standing there) within
-    (sym of.0) standing (SameVersion-symm pair.pkg.version found.version of.1) in
-    Any-intro (λ (p : Pair). IsAlike (pkg_of found) p.pkg) u.pairs pair there (record {
+    (sym of.0) standing (SameVersion-symm pair.pkg.version entry.version of.1) in
+    Any-intro (λ (p : Pair). IsAlike (pkg_of entry) p.pkg) u.pairs pair there (record {
       name = ap (λ (p : Pkg). p.name) same;
-      version = SameVersion-symm pair.pkg.version found.version of.1;
+      version = SameVersion-symm pair.pkg.version entry.version of.1;
       relations = ap (λ (p : Pkg). p.relations) same;
     }))
-    (All-contains (λ (r : Record). Stands r → HasPair u r.name r.version) start found built.standing within standing))
+    (All-contains (λ (r : Record). Stands r → HasPair u r.name r.version) start entry built.standing within standing))
 
 -- an element has a place
 placed : (pairs : List Pair) (pair : Pair) → Contains pairs pair → (place : ℕ) × (slice_get pairs place ≡ Some pair)
@@ -87,13 +87,13 @@ to_selected u pkgs paired pkg within = Any-elim (λ (p : Pair). IsAlike pkg p.pk
     (paired pkg within)
 
 -- one pair has a name and a version
-one_pair : (u : Universe) → HasAscendingPairs u → (number other : ℕ) (pair found : Pair) → item_at u.pairs number ≡ Some pair
-    → item_at u.pairs other ≡ Some found → found.pkg.name ≡ pair.pkg.name → SameVersion pair.pkg.version found.pkg.version → pair ≡ found
-one_pair u ascending number other pair found there also named versions =
-    let below = apart u ascending number other pair found there also named versions in
-    let above = apart u ascending other number found pair also there (sym named) (SameVersion-symm pair.pkg.version found.pkg.version versions) in
+one_pair : (u : Universe) → HasAscendingPairs u → (number other : ℕ) (pair other_pair : Pair) → item_at u.pairs number ≡ Some pair
+    → item_at u.pairs other ≡ Some other_pair → other_pair.pkg.name ≡ pair.pkg.name → SameVersion pair.pkg.version other_pair.pkg.version → pair ≡ other_pair
+one_pair u ascending number other pair other_pair there also named versions =
+    let below = apart u ascending number other pair other_pair there also named versions in
+    let above = apart u ascending other number other_pair pair also there (sym named) (SameVersion-symm pair.pkg.version other_pair.pkg.version versions) in
     let same : number ≡ other = omega (arith, below, above) in
-    same_Some pair found (sym there ∙ ap (item_at u.pairs) same ∙ also)
+    same_Some pair other_pair (sym there ∙ ap (item_at u.pairs) same ∙ also)
 
 -- and each that is selected is alike one of them
 from_selected : (u : Universe) (pkgs : List Pkg) → HasAscendingPairs u → ((pkg : Pkg) → Contains pkgs pkg → IsPaired u pkg)

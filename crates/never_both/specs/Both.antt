@@ -19,8 +19,8 @@ use Rattle.cli_engine.specs.Refuted.{IsRefutationAnswer}
 
 -- no stanza of an index has the name and the version of a package that stands but other relations
 abbrev pub HasNoOtherRelations : List Record → List Index → Type 0
-HasNoOtherRelations start indices = All (λ found. Stands found
-    → All (λ listed. IsOf found.name found.version listed.pkg → listed.pkg.relations ≡ found.relations) (all_listed indices)) start
+HasNoOtherRelations start indices = All (λ entry. Stands entry
+    → All (λ listed. IsOf entry.name entry.version listed.pkg → listed.pkg.relations ≡ entry.relations) (all_listed indices)) start
 
 -- so it is of the status file and the indices that the texts are read as
 abbrev pub AgreeOnRelations : Texts → Type 0

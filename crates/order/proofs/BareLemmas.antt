@@ -75,9 +75,9 @@ forward_bare u selected db (step.Configure names) forward = (
   forward.0,
   All-weaker (IsOfSelected selected db) (IsOfSelected (map bare selected) db) (λ name of. (
     of.0,
-    Any-weaker (λ found. (found.name ≡ name) × HasVersion name found.version selected)
-        (λ found. (found.name ≡ name) × HasVersion name found.version (map bare selected)) db
-        (λ found within both. (both.0, version_bare name found.version selected both.1)) of.1,
+    Any-weaker (λ entry. (entry.name ≡ name) × HasVersion name entry.version selected)
+        (λ entry. (entry.name ≡ name) × HasVersion name entry.version (map bare selected)) db
+        (λ entry within both. (both.0, version_bare name entry.version selected both.1)) of.1,
   )) names forward.1,
 )
 forward_bare u selected db (step.Remove name) forward = (forward.0, λ has. forward.1 (member_from_bare name selected has))
@@ -89,8 +89,8 @@ rest_from_bare u selected db rest taken forward = rest taken (forward_bare u sel
 
 -- Orders
 
-pub order_from_bare : (u : Universe) (start : List Record) (selected : List Pkg) (found : Ordered) → IsOrder u start (map bare selected) found
-    → IsOrder u start selected found
+pub order_from_bare : (u : Universe) (start : List Record) (selected : List Pkg) (answer : Ordered) → IsOrder u start (map bare selected) answer
+    → IsOrder u start selected answer
 order_from_bare u start selected (ordered.Plan steps) plan = record {
   quiet = plan.quiet;
   finish = plan.finish;

@@ -16,7 +16,7 @@ use Rattle.rules.specs.declared.step.Step.{Step}
 use Rattle.rules.specs.declared.step.Verdict.TheVariants as verdict
 use Rattle.plancheck_state.specs.InstalledLaws.{all_installed, installed_all}
 use Rattle.universe_parts.specs.Parts.{packages_of}
-use Rattle.forward_steps.specs.Door.{HasStanza}
+use Rattle.forward_steps.specs.PartialPlan.{HasStanza}
 use Rattle.order.specs.Order.{InstalledAreSelected, IsWantedEnd}
 use Rattle.forward_steps.specs.Selection.{IsOneEach, is_member_version, member_at, with_stanza}
 use Rattle.forward_steps.proofs.MemberVersions.{version_from_test, version_test_from}
@@ -40,16 +40,16 @@ wanted_where_exact good u start selected steps db answer built run none says = (
 
 -- just the selection is installed where the tests by the table of members say so
 pub selected_where : (members : List Pair) (db : List Record) → IsOneEach (packages_of members)
-    → All (λ found. IsInstalled found → is_member_version members found.name found.version ≡ true) db
+    → All (λ entry. IsInstalled entry → is_member_version members entry.name entry.version ≡ true) db
     ↔ All (λ (member : Pkg). HasVersion member.name member.version (packages_of members)) (installed_of db)
 selected_where members db each = (
   λ all. all_installed (λ member. HasVersion member.name member.version (packages_of members)) db
-      (All-intro (λ found. IsInstalled found → HasVersion found.name found.version (packages_of members)) db (λ found within is.
-      version_from_test members found.name found.version
-      (All-contains (λ (r : Record). IsInstalled r → is_member_version members r.name r.version ≡ true) db found all within is))),
-  λ all. All-intro (λ (found : Record). IsInstalled found → is_member_version members found.name found.version ≡ true) db (λ found within is.
-      version_test_from members each found.name found.version
-      (All-contains (λ (r : Record). IsInstalled r → HasVersion r.name r.version (packages_of members)) db found
+      (All-intro (λ entry. IsInstalled entry → HasVersion entry.name entry.version (packages_of members)) db (λ entry within is.
+      version_from_test members entry.name entry.version
+      (All-contains (λ (r : Record). IsInstalled r → is_member_version members r.name r.version ≡ true) db entry all within is))),
+  λ all. All-intro (λ (entry : Record). IsInstalled entry → is_member_version members entry.name entry.version ≡ true) db (λ entry within is.
+      version_test_from members each entry.name entry.version
+      (All-contains (λ (r : Record). IsInstalled r → HasVersion r.name r.version (packages_of members)) db entry
       (installed_all (λ member. HasVersion member.name member.version (packages_of members)) db all) within is)),
 )
 
@@ -67,7 +67,7 @@ installed_where members db = (
 )
 
 pub exact_where : (members : List Pair) (db : List Record) (selected installed : Bool) → IsOneEach (packages_of members)
-    → IsTrue selected ↔ All (λ found. IsInstalled found → is_member_version members found.name found.version ≡ true) db
+    → IsTrue selected ↔ All (λ entry. IsInstalled entry → is_member_version members entry.name entry.version ≡ true) db
     → IsTrue installed ↔ All (λ member. HasVersion member.pkg.name member.pkg.version (installed_of db)) members
     → (IsTrue selected × IsTrue installed) ↔ InstalledAreSelected (packages_of members) db
 exact_where members db selected installed each one two = (
@@ -80,8 +80,8 @@ pub members_have_stanzas : (u : Universe) (numbers : List ℕ) → All (HasStanz
 members_have_stanzas u [] = All-nil (HasStanza u)
 members_have_stanzas u (number ∷ numbers) = at number (members_have_stanzas u numbers)
   where
-    by : (found : Option Pair) → All (HasStanza u) (filter_map (member_at u) numbers)
-        → All (HasStanza u) (cons_option (option_map (with_stanza u) found) (filter_map (member_at u) numbers))
+    by : (maybe_pair : Option Pair) → All (HasStanza u) (filter_map (member_at u) numbers)
+        → All (HasStanza u) (cons_option (option_map (with_stanza u) maybe_pair) (filter_map (member_at u) numbers))
     by None rest = rest
     by (Some pair) rest = All-cons (HasStanza u) (with_stanza u pair) (filter_map (member_at u) numbers) refl rest
 
@@ -92,18 +92,18 @@ members_have_stanzas u (number ∷ numbers) = at number (members_have_stanzas u 
 
 pub selected_from_exact : (members : List Pair) (db : List Record) → IsOneEach (packages_of members)
     → InstalledAreSelected (packages_of members) db
-    → All (λ found. IsInstalled found → is_member_version members found.name found.version ≡ true) db
+    → All (λ entry. IsInstalled entry → is_member_version members entry.name entry.version ≡ true) db
 selected_from_exact members db each exact = (selected_where members db each).1 exact.are_selected
 
 -- the same, as the answer of a test
 pub not_wanted : GoodPlanHasYes → (u : Universe) (start : List Record) (selected : List Pkg) (steps : List Step) (db : List Record)
-    (found : Option Reason) → IsQuiet start → Run u start steps db → is_some found ≡ true
-    → MatchOption found (HasNothingAgainst u db) (λ first. IsFirstAgainst u db first) → ¬ IsWantedEnd u selected db
+    (maybe_reason : Option Reason) → IsQuiet start → Run u start steps db → is_some maybe_reason ≡ true
+    → MatchOption maybe_reason (HasNothingAgainst u db) (λ first. IsFirstAgainst u db first) → ¬ IsWantedEnd u selected db
 not_wanted law u start selected steps db None quiet run some against = absurd (let e : false ≡ true = some in cc)
 not_wanted law u start selected steps db (Some first) quiet run some against =
     not_wanted_first law u start selected steps db first quiet run against
 
-pub nothing_where_none : (u : Universe) (db : List Record) (found : Option Reason) → is_some found ≡ false
-    → MatchOption found (HasNothingAgainst u db) (λ first. IsFirstAgainst u db first) → HasNothingAgainst u db
+pub nothing_where_none : (u : Universe) (db : List Record) (maybe_reason : Option Reason) → is_some maybe_reason ≡ false
+    → MatchOption maybe_reason (HasNothingAgainst u db) (λ first. IsFirstAgainst u db first) → HasNothingAgainst u db
 nothing_where_none u db None none against = against
 nothing_where_none u db (Some first) none against = absurd (let e : true ≡ false = none in cc)

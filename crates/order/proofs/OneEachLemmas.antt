@@ -83,9 +83,9 @@ pub names_chosen : (u : Universe) (numbers : List ℕ) → filter_map (name_at u
 names_chosen u [] = refl
 names_chosen u (number ∷ numbers) = at number (names_chosen u numbers)
   where
-    by : (found : Option Pair) → filter_map (name_at u) numbers ≡ map (λ (pkg : Pkg). pkg.name) (chosen u numbers)
-        → cons_option (option_map (λ (pair : Pair). pair.pkg.name) found) (filter_map (name_at u) numbers)
-        ≡ map (λ (pkg : Pkg). pkg.name) (cons_option (option_map (λ (pair : Pair). pair.pkg) found) (chosen u numbers))
+    by : (maybe_pair : Option Pair) → filter_map (name_at u) numbers ≡ map (λ (pkg : Pkg). pkg.name) (chosen u numbers)
+        → cons_option (option_map (λ (pair : Pair). pair.pkg.name) maybe_pair) (filter_map (name_at u) numbers)
+        ≡ map (λ (pkg : Pkg). pkg.name) (cons_option (option_map (λ (pair : Pair). pair.pkg) maybe_pair) (chosen u numbers))
     by None rest = rest
     by (Some pair) rest = ap (λ (names : List (List ℕ)). pair.pkg.name ∷ names) rest
 
@@ -118,12 +118,12 @@ apart_from_table names keys place len past table is same =
     apart_where_all (names_at names) (ap (λ (ns : List (List ℕ)). length ns) (sym table ∙ all) ∙ one ∙ sym is ∙ many ∙ sym two)
 
 -- the step of the loop: the name at the place is put behind those so far
-pub table_more : (names keys after : List (Bor (List ℕ))) (place : ℕ) (found : Bor (List ℕ)) (all : List (List ℕ)) → place < length names
-    → found ≡ get_or names place found → after ≡ insert_key (λ (a b : Bor (List ℕ)). bytes_eq a.now b.now) keys found
+pub table_more : (names keys after : List (Bor (List ℕ))) (place : ℕ) (name : Bor (List ℕ)) (all : List (List ℕ)) → place < length names
+    → name ≡ get_or names place name → after ≡ insert_key (λ (a b : Bor (List ℕ)). bytes_eq a.now b.now) keys name
     → fold with_name (names_at keys) (names_at (drop place names)) ≡ all
     → fold with_name (names_at after) (names_at (drop (place + 1) names)) ≡ all
-table_more names keys after place found all within is put so_far =
-    sym (ap (λ (rest : List (Bor (List ℕ))). fold with_name (names_at keys) (names_at rest)) (drop_more names place found within)
+table_more names keys after place name all within is put so_far =
+    sym (ap (λ (rest : List (Bor (List ℕ))). fold with_name (names_at keys) (names_at rest)) (drop_more names place name within)
     ∙ ap (λ (put_in : List (List ℕ)). fold with_name put_in (names_at (drop (place + 1) names)))
-    (ap (λ (here : Bor (List ℕ)). with_name (names_at keys) here.now) (sym is) ∙ sym (inserted keys found) ∙ ap names_at (sym put)))
+    (ap (λ (here : Bor (List ℕ)). with_name (names_at keys) here.now) (sym is) ∙ sym (inserted keys name) ∙ ap names_at (sym put)))
     ∙ so_far

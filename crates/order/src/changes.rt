@@ -1,6 +1,6 @@
 // Which records the steps so far have changed, in their order. So what was found before is tried again only against these.
 
-use forward_steps::Door;
+use forward_steps::PartialPlan;
 use indexmap::IndexSet;
 use plancheck_state::Records;
 use rules::{Name, Step};
@@ -29,8 +29,8 @@ impl<'a> Changes<'a> {
     fn extend(&mut self, db: &Records<'_, 'a>) -> Result<(), AllocError> {
         let records = db.as_slice();
         for place in self.names.len()..records.len() {
-            if let Some(found) = records.get(place) {
-                self.names.insert(found.name())?;
+            if let Some(entry) = records.get(place) {
+                self.names.insert(entry.name())?;
             }
         }
         Ok(())
@@ -61,14 +61,14 @@ impl<'a> Changes<'a> {
     }
 
     /// Takes in what the steps since the last call have changed. Linear in their names. Memory alone can fail.
-    pub(crate) fn note(&mut self, door: &Door<'_, 'a>) -> Result<(), AllocError> {
-        self.extend(&door.db)?;
-        for number in self.steps..door.steps.len() {
-            if let Some(step) = door.steps.get(number) {
+    pub(crate) fn note(&mut self, plan: &PartialPlan<'_, 'a>) -> Result<(), AllocError> {
+        self.extend(&plan.db)?;
+        for number in self.steps..plan.steps.len() {
+            if let Some(step) = plan.steps.get(number) {
                 self.add_step(step)?;
             }
         }
-        self.steps = door.steps.len();
+        self.steps = plan.steps.len();
         Ok(())
     }
 

@@ -1,10 +1,10 @@
-// How the way is made free: what needs a package that goes, and what a package breaks, is deconfigured before. The door alone
+// How the way is made free: what needs a package that goes, and what a package breaks, is deconfigured before. The judge alone
 // decides what is taken.
 
 ghost use Rattle.std.specs.Prelude.{IfOk};
-ghost use Rattle.forward_steps.specs.Door.{IsReached};
+ghost use Rattle.forward_steps.specs.PartialPlan.{IsReached};
 
-use forward_steps::{Door, Ground, take};
+use forward_steps::{PartialPlan, Problem, take};
 use plancheck::remove_failing;
 use plancheck_state::{Records, StateRecord, breaks_other, conflicts_with, matches_some};
 use relation::{Clause, Pkg};
@@ -14,9 +14,9 @@ use std::alloc::{AllocError, Global};
 // Whether a package of another name that stands matches the clause.
 fn is_met_by_another(db: &Records<'_, '_>, name: &[u8], clause: &Clause<'_>) -> bool {
     for atom in clause.as_slice() {
-        for found in db.holders(atom.name()) {
-            if found.stands() && found.name() != name {
-                if let Some(pkg) = found.present_pkg() {
+        for entry in db.holders(atom.name()) {
+            if entry.stands() && entry.name() != name {
+                if let Some(pkg) = entry.present_pkg() {
                     if atom.matched_by(pkg) {
                         return true;
                     }
@@ -38,17 +38,17 @@ fn some_needs(db: &Records<'_, '_>, pkg: &Pkg<'_>, clauses: &[Clause<'_>]) -> bo
 }
 
 // Whether the record is installed and needs the package.
-fn needs(db: &Records<'_, '_>, pkg: &Pkg<'_>, found: &StateRecord<'_, '_>) -> bool {
-    found.state().is_installed()
-        && found.name() != pkg.name()
-        && (some_needs(db, pkg, found.pre_depends()) || some_needs(db, pkg, found.depends()))
+fn needs(db: &Records<'_, '_>, pkg: &Pkg<'_>, entry: &StateRecord<'_, '_>) -> bool {
+    entry.state().is_installed()
+        && entry.name() != pkg.name()
+        && (some_needs(db, pkg, entry.pre_depends()) || some_needs(db, pkg, entry.depends()))
 }
 
 /// The package of the name, if it is present.
 pub(crate) fn present<'p, 'a>(db: &Records<'p, 'a>, name: &[u8]) -> Option<&'p Pkg<'a>> {
-    for found in db.holders(name) {
-        if found.name() == name {
-            return found.present_pkg();
+    for entry in db.holders(name) {
+        if entry.name() == name {
+            return entry.present_pkg();
         }
     }
     None
@@ -58,9 +58,9 @@ pub(crate) fn present<'p, 'a>(db: &Records<'p, 'a>, name: &[u8]) -> Option<&'p P
 fn needing(alloc: Global, db: &Records<'_, '_>, name: &[u8]) -> Result<Vec<Name>, AllocError> {
     let mut names = Vec::new(alloc);
     if let Some(pkg) = present(db, name) {
-        for found in db.as_slice() {
-            if is_name(found.name()) && needs(db, pkg, found) {
-                names.push(Name::copied_from(alloc, found.name())?)?;
+        for entry in db.as_slice() {
+            if is_name(entry.name()) && needs(db, pkg, entry) {
+                names.push(Name::copied_from(alloc, entry.name())?)?;
             }
         }
     }
@@ -74,14 +74,14 @@ pub(crate) fn broken_by(
     pkg: &Pkg<'_>,
 ) -> Result<Vec<Name>, AllocError> {
     let mut names = Vec::new(alloc);
-    for found in db.as_slice() {
-        if let Some(other) = found.present_pkg() {
-            if found.state().is_installed()
-                && is_name(found.name())
-                && found.name() != pkg.name()
+    for entry in db.as_slice() {
+        if let Some(other) = entry.present_pkg() {
+            if entry.state().is_installed()
+                && is_name(entry.name())
+                && entry.name() != pkg.name()
                 && breaks_other(pkg, other)
             {
-                names.push(Name::copied_from(alloc, found.name())?)?;
+                names.push(Name::copied_from(alloc, entry.name())?)?;
             }
         }
     }
@@ -96,10 +96,10 @@ pub(crate) fn breaking(
 ) -> Result<Vec<Name>, AllocError> {
     let mut names = Vec::new(alloc);
     if let Some(pkg) = present(db, name) {
-        for found in db.as_slice() {
-            if let Some(other) = found.present_pkg() {
-                if is_name(found.name()) && found.name() != name && breaks_other(other, pkg) {
-                    names.push(Name::copied_from(alloc, found.name())?)?;
+        for entry in db.as_slice() {
+            if let Some(other) = entry.present_pkg() {
+                if is_name(entry.name()) && entry.name() != name && breaks_other(other, pkg) {
+                    names.push(Name::copied_from(alloc, entry.name())?)?;
                 }
             }
         }
@@ -114,13 +114,13 @@ pub(crate) fn conflicting(
     pkg: &Pkg<'_>,
 ) -> Result<Vec<Name>, AllocError> {
     let mut names = Vec::new(alloc);
-    for found in db.as_slice() {
-        if let Some(other) = found.present_pkg() {
-            if is_name(found.name())
-                && found.name() != pkg.name()
+    for entry in db.as_slice() {
+        if let Some(other) = entry.present_pkg() {
+            if is_name(entry.name())
+                && entry.name() != pkg.name()
                 && (conflicts_with(pkg, other) || conflicts_with(other, pkg))
             {
-                names.push(Name::copied_from(alloc, found.name())?)?;
+                names.push(Name::copied_from(alloc, entry.name())?)?;
             }
         }
     }
@@ -129,16 +129,16 @@ pub(crate) fn conflicting(
 
 /// Deconfigures each of the names that is installed.
 pub(crate) fn deconfigure_each<'p, 'a>(
-    ground: &Ground<'_, '_, 'p, 'a>,
-    door: &mut Door<'p, 'a>,
+    problem: &Problem<'_, '_, 'p, 'a>,
+    plan: &mut PartialPlan<'p, 'a>,
     names: &[Name],
 ) -> Result<(), AllocError>
-    requires reached { IsReached ground.now door.old }
-    ensures reached { IfOk result (λ _. IsReached ground.now door.new) }
+    requires reached { IsReached problem.now plan.old }
+    ensures reached { IfOk result (λ _. IsReached problem.now plan.new) }
 {
     for name in names {
-        let step = Step::Deconfigure(name.try_copy(ground.alloc)?);
-        let _taken = take(ground, door, None, step)?;
+        let step = Step::Deconfigure(name.try_copy(problem.alloc)?);
+        let _taken = take(problem, plan, None, step)?;
     }
     Ok(())
 }
@@ -146,37 +146,37 @@ pub(crate) fn deconfigure_each<'p, 'a>(
 /// Removes the package of the name, if what needs it alone stands in the way: that is deconfigured before. Answers whether it
 /// was removed.
 pub(crate) fn cut<'p, 'a>(
-    ground: &Ground<'_, '_, 'p, 'a>,
-    door: &mut Door<'p, 'a>,
+    problem: &Problem<'_, '_, 'p, 'a>,
+    plan: &mut PartialPlan<'p, 'a>,
     name: &Name,
 ) -> Result<bool, AllocError>
-    requires reached { IsReached ground.now door.old }
-    ensures reached { IfOk result (λ _. IsReached ground.now door.new) }
+    requires reached { IsReached problem.now plan.old }
+    ensures reached { IfOk result (λ _. IsReached problem.now plan.new) }
 {
-    match remove_failing(&door.db, name.as_bytes()) {
+    match remove_failing(&plan.db, name.as_bytes()) {
         None => {}
         Some(Rule::NeededBy) => {
-            let names = needing(ground.alloc, &door.db, name.as_bytes())?;
-            deconfigure_each(ground, door, names.as_slice())?;
+            let names = needing(problem.alloc, &plan.db, name.as_bytes())?;
+            deconfigure_each(problem, plan, names.as_slice())?;
         }
         Some(_) => return Ok(false),
     }
-    let step = Step::Remove(name.try_copy(ground.alloc)?);
-    let taken = take(ground, door, None, step)?;
+    let step = Step::Remove(name.try_copy(problem.alloc)?);
+    let taken = take(problem, plan, None, step)?;
     Ok(taken)
 }
 
 /// Removes the first of the names that can be, whatever needs it. Answers whether one was.
 pub(crate) fn cut_first<'p, 'a>(
-    ground: &Ground<'_, '_, 'p, 'a>,
-    door: &mut Door<'p, 'a>,
+    problem: &Problem<'_, '_, 'p, 'a>,
+    plan: &mut PartialPlan<'p, 'a>,
     names: &[Name],
 ) -> Result<bool, AllocError>
-    requires reached { IsReached ground.now door.old }
-    ensures reached { IfOk result (λ _. IsReached ground.now door.new) }
+    requires reached { IsReached problem.now plan.old }
+    ensures reached { IfOk result (λ _. IsReached problem.now plan.new) }
 {
     for name in names {
-        let taken = cut(ground, door, name)?;
+        let taken = cut(problem, plan, name)?;
         if taken {
             return Ok(true);
         }

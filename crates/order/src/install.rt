@@ -1,13 +1,13 @@
 // Whole packages: each member that is ready is unpacked and configured right after. One that something still hinders isn't tried
-// (`hurdle`).
+// (`hindrance`).
 
 ghost use Rattle.std.specs.Prelude.{IfOk};
 ghost use Rattle.std.specs.List.{Contains};
-ghost use Rattle.forward_steps.specs.Door.{IsGround, IsReached};
+ghost use Rattle.forward_steps.specs.PartialPlan.{IsProblem, IsReached};
 
-use crate::hurdle::{Hurdles, Way};
+use crate::hindrance::{Hindrance, Hindrances};
 use crate::tidy::configure_alone;
-use forward_steps::{Door, Ground, Member, unpack};
+use forward_steps::{Member, PartialPlan, Problem, unpack};
 use index::IndexPackage;
 use plancheck_state::Records;
 use relation::Pkg;
@@ -16,10 +16,10 @@ use std::alloc::AllocError;
 
 // Whether the member stands in this version already.
 fn stands(db: &Records<'_, '_>, member: &Member<'_>) -> bool {
-    db.holders(member.name()).any(|found| {
-        found.name() == member.name()
-            && found.stands()
-            && found
+    db.holders(member.name()).any(|entry| {
+        entry.name() == member.name()
+            && entry.stands()
+            && entry
                 .present_pkg()
                 .is_some_and(|pkg| pkg.version() == member.version())
     })
@@ -33,40 +33,40 @@ pub(crate) fn unpacked_from<'m, 'a>(
     if stands(db, member) {
         return None;
     }
-    member.listed()
+    member.stanza()
 }
 
 // Whether nothing is known to hinder the member from being unpacked and configured right after.
 fn is_open<'a>(
-    door: &Door<'_, 'a>,
-    hurdles: &mut Hurdles<'a>,
+    plan: &PartialPlan<'_, 'a>,
+    hindrances: &mut Hindrances<'a>,
     rank: usize,
     pkg: &Pkg<'_>,
 ) -> Result<bool, AllocError> {
-    let lacked = hurdles.has_before(rank, Way::Lack);
-    if lacked && hurdles.has(door, rank, pkg, Way::Lack)? {
+    let lacked = hindrances.has_before(rank, Hindrance::Lack);
+    if lacked && hindrances.has(plan, rank, pkg, Hindrance::Lack)? {
         return Ok(false);
     }
-    let hindered = hurdles.has(door, rank, pkg, Way::Record)?;
+    let hindered = hindrances.has(plan, rank, pkg, Hindrance::Record)?;
     if hindered {
         return Ok(false);
     }
-    let lacks = hurdles.has(door, rank, pkg, Way::Lack)?;
+    let lacks = hindrances.has(plan, rank, pkg, Hindrance::Lack)?;
     Ok(!lacks)
 }
 
 // Configures the member alone, if it is allowed.
 fn configure_member<'p, 'a>(
-    ground: &Ground<'_, '_, 'p, 'a>,
-    door: &mut Door<'p, 'a>,
+    problem: &Problem<'_, '_, 'p, 'a>,
+    plan: &mut PartialPlan<'p, 'a>,
     member: &Member<'a>,
 ) -> Result<(), AllocError>
-    requires reached { IsReached ground.now door.old }
-    ensures reached { IfOk result (λ _. IsReached ground.now door.new) }
+    requires reached { IsReached problem.now plan.old }
+    ensures reached { IfOk result (λ _. IsReached problem.now plan.new) }
 {
     if is_name(member.name()) {
-        let name = Name::copied_from(ground.alloc, member.name())?;
-        let _configured = configure_alone(ground, door, &name)?;
+        let name = Name::copied_from(problem.alloc, member.name())?;
+        let _configured = configure_alone(problem, plan, &name)?;
     }
     Ok(())
 }
@@ -74,27 +74,27 @@ fn configure_member<'p, 'a>(
 // Unpacks the member of this rank and configures it right after, if nothing that it needs is missing. Answers whether it was
 // unpacked.
 fn install<'p, 'a>(
-    ground: &Ground<'_, '_, 'p, 'a>,
-    door: &mut Door<'p, 'a>,
-    hurdles: &mut Hurdles<'a>,
+    problem: &Problem<'_, '_, 'p, 'a>,
+    plan: &mut PartialPlan<'p, 'a>,
+    hindrances: &mut Hindrances<'a>,
     rank: usize,
     member: &'p Member<'a>,
 ) -> Result<bool, AllocError>
-    requires ground { IsGround ground.now }
-    requires reached { IsReached ground.now door.old }
-    requires within { Contains ground.now.members.now member.now }
-    ensures reached { IfOk result (λ _. IsReached ground.now door.new) }
+    requires problem { IsProblem problem.now }
+    requires reached { IsReached problem.now plan.old }
+    requires within { Contains problem.now.members.now member.now }
+    ensures reached { IfOk result (λ _. IsReached problem.now plan.new) }
 {
-    let Some(listed) = unpacked_from(&door.db, member) else {
+    let Some(listed) = unpacked_from(&plan.db, member) else {
         return Ok(false);
     };
-    let open = is_open(door, hurdles, rank, listed.pkg())?;
+    let open = is_open(plan, hindrances, rank, listed.pkg())?;
     if !open || !is_name(member.name()) {
         return Ok(false);
     }
-    let unpacked = unpack(ground, door, member)?;
+    let unpacked = unpack(problem, plan, member)?;
     if unpacked {
-        configure_member(ground, door, member)?;
+        configure_member(problem, plan, member)?;
     }
     Ok(unpacked)
 }
@@ -102,18 +102,18 @@ fn install<'p, 'a>(
 /// Installs each member that is ready when its turn comes. Answers whether one was unpacked. Of a member that something hindered
 /// before it costs a test for each change since.
 pub(crate) fn install_ready<'p, 'a>(
-    ground: &Ground<'_, '_, 'p, 'a>,
-    door: &mut Door<'p, 'a>,
-    hurdles: &mut Hurdles<'a>,
+    problem: &Problem<'_, '_, 'p, 'a>,
+    plan: &mut PartialPlan<'p, 'a>,
+    hindrances: &mut Hindrances<'a>,
 ) -> Result<bool, AllocError>
-    requires ground { IsGround ground.now }
-    requires reached { IsReached ground.now door.old }
-    ensures reached { IfOk result (λ _. IsReached ground.now door.new) }
+    requires problem { IsProblem problem.now }
+    requires reached { IsReached problem.now plan.old }
+    ensures reached { IfOk result (λ _. IsReached problem.now plan.new) }
 {
     let mut moved = false;
-    for rank in 0..ground.members.tried() {
-        if let Some(member) = ground.members.at_rank(rank) {
-            let unpacked = install(ground, door, hurdles, rank, member)?;
+    for rank in 0..problem.members.rank_count() {
+        if let Some(member) = problem.members.at_rank(rank) {
+            let unpacked = install(problem, plan, hindrances, rank, member)?;
             moved = moved || unpacked;
         }
     }

@@ -5,10 +5,11 @@
 
 mod changes;
 mod clear;
+mod components;
+mod enabling;
 mod end;
-mod hurdle;
+mod hindrance;
 mod install;
-mod knots;
 mod needed;
 mod one_each;
 mod ordered;
@@ -17,7 +18,6 @@ mod ring;
 mod strategy;
 mod tidy;
 mod tried;
-mod way;
 
 pub use one_each::is_one_each;
 pub use ordered::Ordered;

@@ -2,11 +2,11 @@
 // changed: each name meets each change once. This is a hint: what no remembered clause needs is asked of the judge.
 
 ghost use Rattle.std.specs.Prelude.{IfOk};
-ghost use Rattle.forward_steps.specs.Door.{IsReached};
+ghost use Rattle.forward_steps.specs.PartialPlan.{IsReached};
 
 use crate::changes::Changes;
 use crate::clear::{is_needed_by, present};
-use forward_steps::{Door, Ground, leaving, take};
+use forward_steps::{PartialPlan, Problem, leaving, take};
 use plancheck::remove_failing;
 use plancheck_state::{Records, StateRecord, matches_some};
 use relation::{Clause, Pkg};
@@ -23,12 +23,12 @@ struct Need {
 }
 
 // The clause at the place, among those of Pre-Depends and behind these of Depends.
-fn clause_at<'v, 'a>(found: &'v StateRecord<'_, 'a>, place: usize) -> Option<&'v Clause<'a>> {
-    match found.pre_depends().get(place) {
+fn clause_at<'v, 'a>(entry: &'v StateRecord<'_, 'a>, place: usize) -> Option<&'v Clause<'a>> {
+    match entry.pre_depends().get(place) {
         Some(clause) => Some(clause),
-        None => found
+        None => entry
             .depends()
-            .get(place.saturating_sub(found.pre_depends().len())),
+            .get(place.saturating_sub(entry.pre_depends().len())),
     }
 }
 
@@ -36,17 +36,17 @@ fn clause_at<'v, 'a>(found: &'v StateRecord<'_, 'a>, place: usize) -> Option<&'v
 fn needing_clause(
     db: &Records<'_, '_>,
     pkg: &Pkg<'_>,
-    found: &StateRecord<'_, '_>,
+    entry: &StateRecord<'_, '_>,
 ) -> Option<usize> {
-    if !found.state().is_installed() || found.name() == pkg.name() {
+    if !entry.state().is_installed() || entry.name() == pkg.name() {
         return None;
     }
-    let clauses = found
+    let clauses = entry
         .pre_depends()
         .len()
-        .saturating_add(found.depends().len());
+        .saturating_add(entry.depends().len());
     for place in 0..clauses {
-        if let Some(clause) = clause_at(found, place) {
+        if let Some(clause) = clause_at(entry, place) {
             if is_needed_by(db, pkg, clause) {
                 return Some(place);
             }
@@ -63,8 +63,8 @@ fn first_between(
     end: usize,
 ) -> Option<(usize, usize)> {
     for by in first..end {
-        if let Some(found) = db.as_slice().get(by) {
-            if let Some(clause) = needing_clause(db, pkg, found) {
+        if let Some(entry) = db.as_slice().get(by) {
+            if let Some(clause) = needing_clause(db, pkg, entry) {
                 return Some((by, clause));
             }
         }
@@ -75,7 +75,7 @@ fn first_between(
 // The same from the place on, and then from the first on.
 fn first_from(db: &Records<'_, '_>, pkg: &Pkg<'_>, place: usize) -> Option<(usize, usize)> {
     match first_between(db, pkg, place, db.as_slice().len()) {
-        Some(found) => Some(found),
+        Some(first) => Some(first),
         None => first_between(db, pkg, 0, place),
     }
 }
@@ -83,7 +83,7 @@ fn first_from(db: &Records<'_, '_>, pkg: &Pkg<'_>, place: usize) -> Option<(usiz
 // Whether the record at the place stands, is of another name and matches the clause.
 fn stands_in(db: &Records<'_, '_>, name: &[u8], clause: &Clause<'_>, place: usize) -> bool {
     match db.as_slice().get(place) {
-        Some(found) if found.stands() && found.name() != name => match found.present_pkg() {
+        Some(entry) if entry.stands() && entry.name() != name => match entry.present_pkg() {
             Some(pkg) => matches_some(pkg, clause.as_slice()),
             None => false,
         },
@@ -97,7 +97,7 @@ fn is_still_needed(db: &Records<'_, '_>, name: &[u8], need: Need, changed: &[usi
         return false;
     }
     let clause = match db.as_slice().get(need.by) {
-        Some(found) => clause_at(found, need.clause),
+        Some(entry) => clause_at(entry, need.clause),
         None => None,
     };
     match clause {
@@ -112,7 +112,7 @@ fn is_still_needed(db: &Records<'_, '_>, name: &[u8], need: Need, changed: &[usi
 #[derive(Drop)]
 pub(crate) struct Needs<'a> {
     changes: Changes<'a>,
-    found: Vec<Option<Need>>,
+    needs: Vec<Option<Need>>,
 }
 
 impl<'a> Needs<'a> {
@@ -120,18 +120,18 @@ impl<'a> Needs<'a> {
     pub(crate) fn new(alloc: Global) -> Needs<'a> {
         Needs {
             changes: Changes::new(alloc),
-            found: Vec::new(alloc),
+            needs: Vec::new(alloc),
         }
     }
 
     // Keeps the clause that needs the record at the place.
     fn keep(&mut self, place: usize, by: usize, clause: usize) -> Result<(), AllocError> {
         let changes = self.changes.count();
-        for _ in self.found.len()..place.saturating_add(1) {
-            self.found.push(None)?;
+        for _ in self.needs.len()..place.saturating_add(1) {
+            self.needs.push(None)?;
         }
-        if let Some(found) = self.found.get_mut(place) {
-            *found = Some(Need {
+        if let Some(kept) = self.needs.get_mut(place) {
+            *kept = Some(Need {
                 by,
                 clause,
                 changes,
@@ -142,8 +142,8 @@ impl<'a> Needs<'a> {
 
     // The clause that is remembered of the record at the place.
     fn of(&self, place: usize) -> Option<Need> {
-        match self.found.get(place) {
-            Some(found) => *found,
+        match self.needs.get(place) {
+            Some(need) => *need,
             None => None,
         }
     }
@@ -166,7 +166,12 @@ impl<'a> Needs<'a> {
     }
 
     // Looks for a clause that needs the name, from the remembered one's record on.
-    fn look(&mut self, db: &Records<'_, 'a>, name: &[u8], place: usize) -> Result<(), AllocError> {
+    fn remember(
+        &mut self,
+        db: &Records<'_, 'a>,
+        name: &[u8],
+        place: usize,
+    ) -> Result<(), AllocError> {
         let Some(pkg) = present(db, name) else {
             return Ok(());
         };
@@ -181,17 +186,17 @@ impl<'a> Needs<'a> {
     }
 
     // Whether some package needs the name.
-    fn is_needed(&mut self, door: &Door<'_, 'a>, name: &[u8]) -> Result<bool, AllocError> {
-        self.changes.note(door)?;
+    fn is_needed(&mut self, plan: &PartialPlan<'_, 'a>, name: &[u8]) -> Result<bool, AllocError> {
+        self.changes.note(plan)?;
         let Some(place) = self.changes.place_of(name) else {
             return Ok(false);
         };
-        if self.is_known(&door.db, name, place)? {
+        if self.is_known(&plan.db, name, place)? {
             return Ok(true);
         }
-        match remove_failing(&door.db, name) {
+        match remove_failing(&plan.db, name) {
             Some(Rule::NeededBy) => {
-                self.look(&door.db, name, place)?;
+                self.remember(&plan.db, name, place)?;
                 Ok(true)
             }
             _ => Ok(false),
@@ -202,35 +207,35 @@ impl<'a> Needs<'a> {
 /// Removes the name, if nothing needs it and it can be. Where a remembered clause needs it, it costs a test for each change since.
 /// Memory alone can fail.
 pub(crate) fn remove_unneeded<'p, 'a>(
-    ground: &Ground<'_, '_, 'p, 'a>,
-    door: &mut Door<'p, 'a>,
+    problem: &Problem<'_, '_, 'p, 'a>,
+    plan: &mut PartialPlan<'p, 'a>,
     needs: &mut Needs<'a>,
     name: &Name,
 ) -> Result<bool, AllocError>
-    requires reached { IsReached ground.now door.old }
-    ensures reached { IfOk result (λ _. IsReached ground.now door.new) }
+    requires reached { IsReached problem.now plan.old }
+    ensures reached { IfOk result (λ _. IsReached problem.now plan.new) }
 {
-    let needed = needs.is_needed(door, name.as_bytes())?;
+    let needed = needs.is_needed(plan, name.as_bytes())?;
     if needed {
         return Ok(false);
     }
-    let step = Step::Remove(name.try_copy(ground.alloc)?);
-    let taken = take(ground, door, None, step)?;
+    let step = Step::Remove(name.try_copy(problem.alloc)?);
+    let taken = take(problem, plan, None, step)?;
     Ok(taken)
 }
 
 /// Removes the first name without a member that can be, if there is one. Memory alone can fail.
 pub(crate) fn remove_some<'p, 'a>(
-    ground: &Ground<'_, '_, 'p, 'a>,
-    door: &mut Door<'p, 'a>,
+    problem: &Problem<'_, '_, 'p, 'a>,
+    plan: &mut PartialPlan<'p, 'a>,
     needs: &mut Needs<'a>,
 ) -> Result<bool, AllocError>
-    requires reached { IsReached ground.now door.old }
-    ensures reached { IfOk result (λ _. IsReached ground.now door.new) }
+    requires reached { IsReached problem.now plan.old }
+    ensures reached { IfOk result (λ _. IsReached problem.now plan.new) }
 {
-    let names = leaving(ground.alloc, &door.db, ground.members)?;
+    let names = leaving(problem.alloc, &plan.db, problem.members)?;
     for name in names.as_slice() {
-        let removed = remove_unneeded(ground, door, needs, name)?;
+        let removed = remove_unneeded(problem, plan, needs, name)?;
         if removed {
             return Ok(true);
         }

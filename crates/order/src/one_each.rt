@@ -14,7 +14,9 @@ fn names_of<'a>(
     universe: &Universe<'_, 'a>,
     selection: &[u32],
 ) -> Result<Vec<&'a [u8]>, AllocError>
-    ensures { IfOk result (λ names. map (λ name. name.now) names.items ≡ filter_map (name_at universe.now) selection.now) }
+    ensures { IfOk result
+        (λ names. map (λ name. name.now) names.items
+        ≡ filter_map (name_at universe.now) selection.now) }
 {
     let mut names = Vec::new(alloc);
     for number in selection {
@@ -43,7 +45,8 @@ pub fn is_one_each(
     universe: &Universe<'_, '_>,
     selection: &[u32],
 ) -> Result<bool, AllocError>
-    ensures { IfOk result (λ answer. IsTrue answer → IsOneEach (chosen universe.now selection.now)) }
+    ensures { IfOk result
+        (λ answer. IsTrue answer → IsOneEach (chosen universe.now selection.now)) }
 {
     let names = names_of(alloc, universe, selection)?;
     let answer = are_apart(alloc, names.as_slice())?;

@@ -5,7 +5,7 @@ ghost use Rattle.std.specs.List.{All};
 ghost use Rattle.rules.specs.Database.{IsQuiet};
 ghost use Rattle.rules.specs.Verdict.{IsBuiltOn};
 ghost use Rattle.universe_parts.specs.Parts.{packages_of};
-ghost use Rattle.forward_steps.specs.Door.{HasStanza, IsGround, IsReached, selected_in};
+ghost use Rattle.forward_steps.specs.PartialPlan.{HasStanza, IsProblem, IsReached, selected_in};
 ghost use Rattle.forward_steps.specs.Forward.{IsAtRest};
 ghost use Rattle.order.specs.Order.{IsOrder};
 ghost use Rattle.forward_steps.specs.Selection.{IsOneEach, chosen};
@@ -13,39 +13,43 @@ ghost use Rattle.forward_steps.specs.Selection.{IsOneEach, chosen};
 use crate::end::is_wanted;
 use crate::ordered::Ordered;
 use crate::strategy::choose_all;
-use forward_steps::{Door, Ground, Members, finish, opened};
+use forward_steps::{MemberTable, PartialPlan, Problem, empty_plan, finish};
 use plancheck::is_quiet;
 use plancheck_state::Records;
 use std::alloc::{AllocError, Global};
 use universe::Universe;
 
 // What is answered where no step leads on.
-fn answered<'p, 'a>(
-    ground: &Ground<'_, '_, 'p, 'a>,
-    door: Door<'p, 'a>,
+fn answer_of<'p, 'a>(
+    problem: &Problem<'_, '_, 'p, 'a>,
+    plan: PartialPlan<'p, 'a>,
 ) -> Result<Ordered, AllocError>
-    requires ground { IsGround ground.now }
-    requires reached { IsReached ground.now door }
-    requires rest { IsAtRest ground.now.universe.now (selected_in ground.now) door.db }
-    ensures { IfOk result (λ ordered. IsOrder ground.now.universe.now ground.now.start.now (selected_in ground.now) ordered) }
+    requires problem { IsProblem problem.now }
+    requires reached { IsReached problem.now plan }
+    requires rest { IsAtRest problem.now.universe.now (selected_in problem.now) plan.db }
+    ensures { IfOk result
+        (λ ordered. IsOrder problem.now.universe.now problem.now.start.now
+        (selected_in problem.now) ordered) }
 {
-    let is_plan = is_wanted(ground, &door)?;
+    let is_plan = is_wanted(problem, &plan)?;
     if is_plan {
-        Ok(Ordered::Plan(door.steps))
+        Ok(Ordered::Plan(plan.steps))
     } else {
-        Ok(Ordered::Stuck(door.steps))
+        Ok(Ordered::Stuck(plan.steps))
     }
 }
 
 // The order from a quiet start.
-fn order_on<'p, 'a>(ground: &Ground<'_, '_, 'p, 'a>) -> Result<Ordered, AllocError>
-    requires { IsGround ground.now }
-    ensures { IfOk result (λ ordered. IsOrder ground.now.universe.now ground.now.start.now (selected_in ground.now) ordered) }
+fn order_on<'p, 'a>(problem: &Problem<'_, '_, 'p, 'a>) -> Result<Ordered, AllocError>
+    requires { IsProblem problem.now }
+    ensures { IfOk result
+        (λ ordered. IsOrder problem.now.universe.now problem.now.start.now
+        (selected_in problem.now) ordered) }
 {
-    let mut door = opened(ground)?;
-    choose_all(ground, &mut door)?;
-    finish(ground, &mut door)?;
-    let ordered = answered(ground, door)?;
+    let mut plan = empty_plan(problem)?;
+    choose_all(problem, &mut plan)?;
+    finish(problem, &mut plan)?;
+    let ordered = answer_of(problem, plan)?;
     Ok(ordered)
 }
 
@@ -54,21 +58,22 @@ fn members_order<'p, 'a>(
     alloc: Global,
     start: &Records<'p, 'a>,
     universe: &Universe<'_, 'a>,
-    members: &'p Members<'a>,
+    members: &'p MemberTable<'a>,
 ) -> Result<Ordered, AllocError>
     requires built { IsBuiltOn start.now universe.now }
     requires quiet { IsQuiet start.now }
     requires one_each { IsOneEach (packages_of members.now) }
     requires stanzas { All (HasStanza universe.now) members.now }
-    ensures { IfOk result (λ ordered. IsOrder universe.now start.now (packages_of members.now) ordered) }
+    ensures { IfOk result
+        (λ ordered. IsOrder universe.now start.now (packages_of members.now) ordered) }
 {
-    let ground = Ground {
+    let problem = Problem {
         alloc,
         start,
         universe,
         members,
     };
-    let ordered = order_on(&ground)?;
+    let ordered = order_on(&problem)?;
     Ok(ordered)
 }
 
@@ -82,9 +87,10 @@ fn quiet_order<'p, 'a>(
     requires built { IsBuiltOn start.now universe.now }
     requires quiet { IsQuiet start.now }
     requires one_each { IsOneEach (chosen universe.now selection.now) }
-    ensures { IfOk result (λ ordered. IsOrder universe.now start.now (chosen universe.now selection.now) ordered) }
+    ensures { IfOk result
+        (λ ordered. IsOrder universe.now start.now (chosen universe.now selection.now) ordered) }
 {
-    let members = Members::read(alloc, universe, selection)?;
+    let members = MemberTable::read(alloc, universe, selection)?;
     let ordered = members_order(alloc, start, universe, members.lend())?;
     Ok(ordered)
 }
@@ -100,7 +106,8 @@ pub fn order<'p, 'a>(
 ) -> Result<Ordered, AllocError>
     requires built { IsBuiltOn start.now universe.now }
     requires one_each { IsOneEach (chosen universe.now selection.now) }
-    ensures { IfOk result (λ ordered. IsOrder universe.now start.now (chosen universe.now selection.now) ordered) }
+    ensures { IfOk result
+        (λ ordered. IsOrder universe.now start.now (chosen universe.now selection.now) ordered) }
 {
     if is_quiet(start) {
         quiet_order(alloc, start, universe, selection)

@@ -2,8 +2,8 @@
 // first guess at a group that can be configured together; whether it is one, the judge says.
 
 use crate::clear::present;
-use crate::knots::lowest;
-use forward_steps::{Members, is_waiting};
+use crate::components::lowest;
+use forward_steps::{MemberTable, is_waiting};
 use indexmap::IndexSet;
 use plancheck_state::{Records, is_met, matches_some};
 use relation::{Clause, Pkg};
@@ -13,11 +13,11 @@ use std::alloc::{AllocError, Global};
 // A name that isn't configured and matches the clause.
 fn unconfigured_match<'a>(db: &Records<'_, 'a>, clause: &Clause<'_>) -> Option<&'a [u8]> {
     for atom in clause.as_slice() {
-        for found in db.holders(atom.name()) {
-            if found.state().is_unconfigured() {
-                if let Some(pkg) = found.present_pkg() {
+        for entry in db.holders(atom.name()) {
+            if entry.state().is_unconfigured() {
+                if let Some(pkg) = entry.present_pkg() {
                     if atom.matched_by(pkg) {
-                        return Some(found.name());
+                        return Some(entry.name());
                     }
                 }
             }
@@ -103,12 +103,12 @@ fn copies(alloc: Global, names: &[&[u8]]) -> Result<Vec<Name>, AllocError> {
 fn waiting_in<'a>(
     alloc: Global,
     db: &Records<'_, 'a>,
-    members: &Members<'_>,
+    members: &MemberTable<'_>,
 ) -> Result<IndexSet<&'a [u8]>, AllocError> {
     let mut names = IndexSet::new(alloc);
-    for found in db.as_slice() {
-        if is_waiting(members, found) {
-            names.insert(found.name())?;
+    for entry in db.as_slice() {
+        if is_waiting(members, entry) {
+            names.insert(entry.name())?;
         }
     }
     Ok(names)
@@ -120,19 +120,19 @@ fn waiting_in<'a>(
 pub(crate) fn fewest_in_need(
     alloc: Global,
     db: &Records<'_, '_>,
-    members: &Members<'_>,
+    members: &MemberTable<'_>,
 ) -> Result<Vec<Name>, AllocError> {
     let waiting = waiting_in(alloc, db, members)?;
     let lowest = lowest(alloc, db, &waiting)?;
-    let mut found = Vec::new(alloc);
+    let mut names = Vec::new(alloc);
     let mut fewest = usize::MAX;
     for place in lowest.as_slice() {
         if let Some(name) = waiting.get_index(*place) {
             if let Some(needed) = needed_with(alloc, db, name, fewest)? {
                 fewest = needed.len();
-                found = copies(alloc, needed.as_slice())?;
+                names = copies(alloc, needed.as_slice())?;
             }
         }
     }
-    Ok(found)
+    Ok(names)
 }

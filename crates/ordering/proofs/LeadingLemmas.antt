@@ -30,22 +30,22 @@ use Rattle.ordering.specs.Leading.{IsSelectedIn, LeadsOn, NothingLeadsOn}
 use mathlib.Core.Logic.{inl, inr}
 
 abbrev IsNamed : Record → Type 0
-IsNamed found = IsTrue (is_name found.name)
+IsNamed entry = IsTrue (is_name entry.name)
 
 -- Names along a run
 
 -- a change that keeps names keeps package names
 changed_named : (test : Record → Bool) (change : Record → Record) (db : List Record)
-    → ((found : Record) → IsNamed found → IsNamed (change found)) → HasNames db → HasNames (changed test change db)
+    → ((entry : Record) → IsNamed entry → IsNamed (change entry)) → HasNames db → HasNames (changed test change db)
 changed_named test change [] keeps named = All-nil IsNamed
-changed_named test change (found ∷ db) keeps named = All-cons IsNamed (if test found then change found else found) (changed test change db)
-    (at (test found)) (changed_named test change db keeps (Rattle.std.proofs.lemmas.List.Elements.All-tail IsNamed found db named))
+changed_named test change (entry ∷ db) keeps named = All-cons IsNamed (if test entry then change entry else entry) (changed test change db)
+    (at (test entry)) (changed_named test change db keeps (Rattle.std.proofs.lemmas.List.Elements.All-tail IsNamed entry db named))
   where
-    here : IsNamed found
-    here = Rattle.std.proofs.lemmas.List.Elements.All-head IsNamed found db named
+    here : IsNamed entry
+    here = Rattle.std.proofs.lemmas.List.Elements.All-head IsNamed entry db named
 
-    at : (b : Bool) → IsNamed (if b then change found else found)
-    at true = keeps found here
+    at : (b : Bool) → IsNamed (if b then change entry else entry)
+    at true = keeps entry here
     at false = here
 
 -- an unpacking of a package with a name keeps package names
@@ -53,13 +53,13 @@ unpacked_named : (listed : IndexPackage) (db : List Record) → IsTrue (is_name 
 unpacked_named listed db is named = at (list_any (is_named listed.pkg.name) db)
   where
     at : (b : Bool) → HasNames (if b then changed (is_named listed.pkg.name) (unpacked_over listed) db else db ++ unpacked_with listed None ∷ [])
-    at true = changed_named (is_named listed.pkg.name) (unpacked_over listed) db (λ found was. is) named
-    at false = All-intro IsNamed (db ++ unpacked_with listed None ∷ []) (λ found within.
-        elim (Contains-append_cases db (unpacked_with listed None ∷ []) found within) [
-          | inl old ↦ All-contains IsNamed db found named old
-          | inr new ↦ elim (Contains-cons (unpacked_with listed None) [] found new) [
+    at true = changed_named (is_named listed.pkg.name) (unpacked_over listed) db (λ entry was. is) named
+    at false = All-intro IsNamed (db ++ unpacked_with listed None ∷ []) (λ entry within.
+        elim (Contains-append_cases db (unpacked_with listed None ∷ []) entry within) [
+          | inl old ↦ All-contains IsNamed db entry named old
+          | inr new ↦ elim (Contains-cons (unpacked_with listed None) [] entry new) [
             | inl same ↦ subst IsNamed same is
-            | inr none ↦ absurd (Contains-nil found none)
+            | inr none ↦ absurd (Contains-nil entry none)
           ]
         ])
 
@@ -90,14 +90,14 @@ step_named : (u : Universe) (start db : List Record) (taken : Step) → IsBuiltO
     → HasNames (after u db taken)
 step_named u start db (step.Unpack name version) built pairs named = at (listed_of u name version) refl
   where
-    at : (listed : Option IndexPackage) → listed_of u name version ≡ listed → HasNames (option_map_or (λ (found : IndexPackage). after_unpack found db) listed db)
+    at : (listed : Option IndexPackage) → listed_of u name version ≡ listed → HasNames (option_map_or (λ (stanza : IndexPackage). after_unpack stanza db) listed db)
     at None is = named
     at (Some listed) is = unpacked_named listed db (listed_named u u.pairs name version listed (pair_listed u start built pairs) is) named
-step_named u start db (step.Deconfigure name) built pairs named = changed_named (is_named name) deconfigured db (λ found was. was) named
-step_named u start db (step.Configure names) built pairs named = changed_named (is_among names) configured db (λ found was. was) named
-step_named u start db (step.Remove name) built pairs named = changed_named (is_named name) removed db (λ found was. was) named
-step_named u start db (step.Purge name) built pairs named = All-intro IsNamed (filter (λ (found : Record). not (is_named name found)) db)
-    (λ found within. All-contains IsNamed db found named (Contains-filter (λ (r : Record). not (is_named name r)) db found within).0)
+step_named u start db (step.Deconfigure name) built pairs named = changed_named (is_named name) deconfigured db (λ entry was. was) named
+step_named u start db (step.Configure names) built pairs named = changed_named (is_among names) configured db (λ entry was. was) named
+step_named u start db (step.Remove name) built pairs named = changed_named (is_named name) removed db (λ entry was. was) named
+step_named u start db (step.Purge name) built pairs named = All-intro IsNamed (filter (λ (entry : Record). not (is_named name entry)) db)
+    (λ entry within. All-contains IsNamed db entry named (Contains-filter (λ (r : Record). not (is_named name r)) db entry within).0)
 
 -- the records that a run leads to have package names
 run_named : (u : Universe) (start db finish : List Record) (steps : List Step) → IsBuiltOn start u → HasPairNames u → HasNames db
@@ -130,7 +130,7 @@ unpack_alike u db name version other same allowed = All-weaker (Asks u db (step.
     listed : (Ask : Option IndexPackage → Type 0) → Ask (listed_of u name version) → Ask (listed_of u name other)
     listed Ask asked = subst Ask (sym (same_listed u name other version same)) asked
 
-    each : (found : Rule) → Asks u db (step.Unpack name version) found → Asks u db (step.Unpack name other) found
+    each : (failed : Rule) → Asks u db (step.Unpack name version) failed → Asks u db (step.Unpack name other) failed
     each rule.StartConflict asked = asked
     each rule.PreDepends asked = listed (λ l. UnpackAsks l db name other rule.PreDepends) asked
     each rule.Conflict asked = listed (λ l. UnpackAsks l db name other rule.Conflict) asked
@@ -141,9 +141,9 @@ unpack_alike u db name version other same allowed = All-weaker (Asks u db (step.
     each rule.Essential asked = asked
     each rule.Held asked = asked
     each rule.WrongState asked = λ standing. asked (Any-weaker
-        (λ (found : Record). (found.name ≡ name) × (Stands found × SameVersion found.version other))
-        (λ (found : Record). (found.name ≡ name) × (Stands found × SameVersion found.version version)) db
-        (λ found within is. (is.0, (is.1.0, SameVersion-trans found.version other version is.1.1 same))) standing)
+        (λ (entry : Record). (entry.name ≡ name) × (Stands entry × SameVersion entry.version other))
+        (λ (entry : Record). (entry.name ≡ name) × (Stands entry × SameVersion entry.version version)) db
+        (λ entry within is. (is.0, (is.1.0, SameVersion-trans entry.version other version is.1.1 same))) standing)
     each rule.NotAdmitted asked = listed IsSome asked
     each rule.End asked = asked
 
@@ -171,8 +171,8 @@ forward_beside u selected db (step.Configure group) members names rest leads all
     rest (step.Configure group) (
       leads.0,
       All-weaker (IsSelectedIn selected db) (IsOfSelected selected db) (λ name is. (
-        Any-elim (λ (found : Record). (found.name ≡ name) × HasVersion name found.version selected) db (IsTrue (is_name name))
-            (λ found within has. member_named selected name found.version members has.1) is,
+        Any-elim (λ (entry : Record). (entry.name ≡ name) × HasVersion name entry.version selected) db (IsTrue (is_name name))
+            (λ entry within has. member_named selected name entry.version members has.1) is,
         is,
       )) group leads.1,
     ) allowed
@@ -181,11 +181,11 @@ forward_beside u selected db (step.Remove name) members names rest leads allowed
   where
     removed_name : IsTrue (is_name name)
     removed_name =
-        let state : HasRecord (λ found. IsPresent found × HasSoundFlag found) name db =
+        let state : HasRecord (λ entry. IsPresent entry × HasSoundFlag entry) name db =
         All-contains (Asks u db (step.Remove name)) (rules_of (step.Remove name)) rule.WrongState allowed
         (Contains-head rule.WrongState (rule.Held ∷ rule.Essential ∷ rule.NeededBy ∷ [])) in
-        Any-elim (λ (found : Record). (found.name ≡ name) × (IsPresent found × HasSoundFlag found)) db (IsTrue (is_name name))
-        (λ found within is. let Named : List ℕ → Type 0 = λ n. IsTrue (is_name n) in subst Named is.0 (All-contains IsNamed db found names within)) state
+        Any-elim (λ (entry : Record). (entry.name ≡ name) × (IsPresent entry × HasSoundFlag entry)) db (IsTrue (is_name name))
+        (λ entry within is. let Named : List ℕ → Type 0 = λ n. IsTrue (is_name n) in subst Named is.0 (All-contains IsNamed db entry names within)) state
 forward_beside u selected db (step.Purge name) members names rest leads allowed = rest (step.Purge name) leads allowed
 
 -- where no forward step is allowed behind a run, no step that leads on is

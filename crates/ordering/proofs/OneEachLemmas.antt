@@ -69,22 +69,22 @@ apart_in premises u numbers number other pkg later ascending acceptable before o
     let (pair, there, of) = pair_of u number pkg is in
     let (pair', there', of') = pair_of u other later is' in
     let named : pair'.pkg.name ≡ pair.pkg.name = ap (λ (p : Pkg). p.name) of' ∙ sym same ∙ sym (ap (λ (p : Pkg). p.name) of) in
-    let (found, within, holds) = premises u (selects numbers) ascending acceptable (premise.Same number other)
+    let (item, within, holds) = premises u (selects numbers) ascending acceptable (premise.Same number other)
     (before, (pair, there, (pair', there', named))) in
-    at found within holds
+    at item within holds
   where
-    out : (n : ℕ) (found : Literal) → found ≡ literal.Unselected n → IsTrue (selects numbers n)
-        → IsTrueOf (selects numbers) found → ⊥
-    out n found is so holds =
+    out : (n : ℕ) (item : Literal) → item ≡ literal.Unselected n → IsTrue (selects numbers n)
+        → IsTrueOf (selects numbers) item → ⊥
+    out n item is so holds =
         let P : Literal → Type 0 = λ l. IsTrueOf (selects numbers) l in
         let no : selects numbers n ≡ false = subst P is holds in
         let yes : selects numbers n ≡ true = so in
         let e : true ≡ false = sym yes ∙ no in absurd cc
 
-    at : (found : Literal) → IsInPremise u (premise.Same number other) found
-        → IsTrueOf (selects numbers) found → ⊥
-    at found (inl first) holds = out number found first one holds
-    at found (inr second) holds = out other found second two holds
+    at : (item : Literal) → IsInPremise u (premise.Same number other) item
+        → IsTrueOf (selects numbers) item → ⊥
+    at item (inl first) holds = out number item first one holds
+    at item (inr second) holds = out other item second two holds
 
 -- the same of a part of the numbers
 one_each_of : PremisesAreTrue → (u : Universe) (numbers some : List ℕ) → HasAscendingPairs u → IsAcceptable u (selects numbers)
@@ -95,8 +95,8 @@ one_each_of premises u numbers (number ∷ some) ascending acceptable apart all 
     at (pkg_at u number) refl (one_each_of premises u numbers some ascending acceptable
     (pairs_tail (λ (one other : ℕ). one < other) number some apart) (λ n within. all n (Contains-rest number some n within)))
   where
-    at : (found : Option Pkg) → pkg_at u number ≡ found → AllPairs (λ (earlier later : Pkg). earlier.name ≢ later.name) (chosen u some)
-        → AllPairs (λ (earlier later : Pkg). earlier.name ≢ later.name) (cons_option found (chosen u some))
+    at : (maybe_pkg : Option Pkg) → pkg_at u number ≡ maybe_pkg → AllPairs (λ (earlier later : Pkg). earlier.name ≢ later.name) (chosen u some)
+        → AllPairs (λ (earlier later : Pkg). earlier.name ≢ later.name) (cons_option maybe_pkg (chosen u some))
     at None is rest = rest
     at (Some pkg) is rest = AllPairs-cons (λ (earlier later : Pkg). earlier.name ≢ later.name) pkg (chosen u some)
         (All-intro (λ (later : Pkg). pkg.name ≢ later.name) (chosen u some) (λ later within.

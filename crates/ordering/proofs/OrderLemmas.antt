@@ -27,8 +27,8 @@ chosen_named u numbers named = All-intro (λ (pkg : Pkg). IsTrue (is_name pkg.na
     All-contains (λ (p : Pkg). IsTrue (is_name p.name)) (selected u (selects numbers)) pkg (selected_named u (selects numbers) named)
     ((same_chosen u numbers pkg).0 within))
 
-pub order_of : (u : Universe) (start : List Record) (members : List Pkg) (found : Ordered) → IsBuiltOn start u → HasPairNames u
-    → HasNames start → AreNamed members → IsOrder u start members found → IsOrderOf u start members found
+pub order_of : (u : Universe) (start : List Record) (members : List Pkg) (answer : Ordered) → IsBuiltOn start u → HasPairNames u
+    → HasNames start → AreNamed members → IsOrder u start members answer → IsOrderOf u start members answer
 order_of u start members (ordered.Plan steps) built pairs names named is = is
 order_of u start members ordered.Start built pairs names named is = is
 order_of u start members (ordered.Stuck steps) built pairs names named is = record {

@@ -25,7 +25,7 @@ same_package u (suc place) = refl
 chosen_members : (u : Universe) (numbers : List ℕ) → chosen u numbers ≡ numbered_members u numbers
 chosen_members u [] = refl
 chosen_members u (number ∷ numbers) =
-    ap (λ (found : Option Pkg). cons_option found (chosen u numbers)) (same_package u number)
+    ap (λ (maybe_pkg : Option Pkg). cons_option maybe_pkg (chosen u numbers)) (same_package u number)
     ∙ ap (cons_option (pkg_of_number u number)) (chosen_members u numbers)
 
 -- the packages of the numbers are those that are selected

@@ -13,7 +13,7 @@ use Rattle.rules.specs.declared.step.Step.TheVariants as step
 
 -- the record of the name is of a selected version
 unfoldable pub IsSelectedIn : List Pkg → List Record → List ℕ → Type 0
-IsSelectedIn selected db name = HasRecord (λ found. HasVersion name found.version selected) name db
+IsSelectedIn selected db name = HasRecord (λ entry. HasVersion name entry.version selected) name db
 
 -- a step that leads to the selection: it unpacks a selected version, configures a group of names whose versions are
 -- selected, removes a name that isn't selected, or purges a name that is to be purged

@@ -41,6 +41,6 @@ IsFixedPlan u start members ordered.Start = ⊥
 IsFixedPlan u start members (ordered.Stuck steps) = ⊥
 
 -- what is answered is an order of the packages of these numbers, and where the change to them is plain, a plan in the fixed order
-pub record IsOrdering (u : Universe) (start : List Record) (numbers : List ℕ) (found : Ordered) : Type 0 where
-  pub order : IsOrderOf u start (chosen u numbers) found
-  pub fixed : IsPlain u start (selected u (selects numbers)) → IsFixedPlan u start (selected u (selects numbers)) found
+pub record IsOrdering (u : Universe) (start : List Record) (numbers : List ℕ) (answer : Ordered) : Type 0 where
+  pub order : IsOrderOf u start (chosen u numbers) answer
+  pub fixed : IsPlain u start (selected u (selects numbers)) → IsFixedPlan u start (selected u (selects numbers)) answer

@@ -1,6 +1,6 @@
 -- Lines of JSON values, one more behind those so far.
 use Rattle.std.proofs.Common.{◌≡◌, ◌∙◌, ◌++◌, ℕ, List, [], ◌∷◌, ap, append_assoc, append-nil, refl, sym}
-use Rattle.documents.specs.Document.{IsLineOf}
+use Rattle.json_answers.specs.Document.{IsLineOf}
 use Rattle.outcomes.specs.Survey.{AreJsonLines}
 use Rattle.serde_json.specs.Data.{Data}
 

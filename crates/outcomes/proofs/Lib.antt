@@ -1,2 +1,3 @@
 mod DocumentLemmas
 mod LineLemmas
+mod PrintingLemmas

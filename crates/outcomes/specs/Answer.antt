@@ -35,7 +35,7 @@ text_for asks_all_versions (solved.Undecided why) = undecided_line why
 
 -- the text of what is answered to a request: that of a refutation with its pairs named, where it has one
 abbrev pub solved_text : Answered → List ℕ
-solved_text found = unwrap_or found.naming (text_for found.asks_all_versions found.solved)
+solved_text answered = unwrap_or answered.naming (text_for answered.asks_all_versions answered.solved)
 
 -- a rule: its code and its name
 abbrev pub rule_words : Rule → List ℕ
@@ -64,7 +64,7 @@ abbrev pub verdict_words : Verdict → List ℕ
 verdict_words verdict.Yes = codes "yes"
 verdict_words verdict.Start = codes "no start " ++ rule_words rule.StartConflict
 verdict_words (verdict.Step number broken) = codes "no step " ++ (decimal number ++ (codes " " ++ rule_words broken))
-verdict_words (verdict.End found) = codes "no end F11 " ++ reason_words found
+verdict_words (verdict.End reason) = codes "no end F11 " ++ reason_words reason
 
 -- the line that is printed of a verdict
 abbrev pub verdict_line : Verdict → List ℕ
@@ -86,11 +86,11 @@ candidate_words (Some offer) = offer.version ++ (codes " " ++ signed_decimal off
 
 -- the line that is printed of the candidate of a name
 abbrev pub candidate_line : List ℕ → Option Offer → List ℕ
-candidate_line name found = name ++ (codes " " ++ (candidate_words found ++ codes "\n"))
+candidate_line name candidate = name ++ (codes " " ++ (candidate_words candidate ++ codes "\n"))
 
 -- the lines that are printed of the candidates of names, each in the place of its name
 abbrev pub candidate_lines : List (List ℕ) → List (Option Offer) → List ℕ
-candidate_lines (name ∷ names) (found ∷ others) = candidate_line name found ++ candidate_lines names others
+candidate_lines (name ∷ names) (candidate ∷ others) = candidate_line name candidate ++ candidate_lines names others
 candidate_lines _ _ = []
 
 -- the line that is printed of a comparison

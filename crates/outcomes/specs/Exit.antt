@@ -57,7 +57,7 @@ exit_of_comparison answer = if answer then exit.Success else exit.No
 
 -- success where each name has a candidate, and no where one has none
 abbrev pub exit_of_candidates : {A : Type 0} → List (Option A) → Exit
-exit_of_candidates found = if list_all is_some found then exit.Success else exit.No
+exit_of_candidates candidates = if list_all is_some candidates then exit.Success else exit.No
 
 -- success where each line has its reply, refused where one is too long, and the device's where it failed or memory was wanting
 abbrev pub exit_of_ended : Ended → Exit

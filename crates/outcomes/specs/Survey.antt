@@ -3,9 +3,9 @@ use Rattle.std.specs.Prelude.{◌≡◌, ◌==◌, ◌||◌, ℕ, Bool, true, fa
 use Rattle.std.specs.List.{filter, flat_map, list_any}
 use Rattle.command_line.specs.declared.call.Format.{Format}
 use Rattle.command_line.specs.declared.call.Format.TheVariants as format
-use Rattle.documents.specs.Document.{IsLineOf, object_with, text_data}
-use Rattle.documents.specs.Objects.{with_number, with_text}
-use Rattle.documents.specs.TextLines.{lines_data}
+use Rattle.json_answers.specs.Document.{IsLineOf, object_with, text_data}
+use Rattle.json_answers.specs.Objects.{with_number, with_text}
+use Rattle.json_answers.specs.TextLines.{lines_data}
 use Rattle.inputs.specs.declared.refusal.Refusal.{Refusal}
 use Rattle.installable.specs.declared.answer.Installability.{Installability}
 use Rattle.installable.specs.declared.answer.Installability.TheVariants as answer
@@ -23,13 +23,13 @@ use Rattle.serde_json.specs.View.{items_of}
 -- the request has no acceptable selection
 abbrev pub is_broken : Installability → Bool
 is_broken (answer.Broken refuted) = true
-is_broken found = false
+is_broken installability = false
 
 -- it isn't known whether the request has one
 abbrev pub is_undecided : Installability → Bool
 is_undecided (answer.Limit limit) = true
 is_undecided answer.Unchecked = true
-is_undecided found = false
+is_undecided installability = false
 
 -- the line of a request of this subject that has no acceptable selection, or is undecided; of one that has a selection there is none
 abbrev pub line_of : List ℕ → Installability → List ℕ
@@ -39,20 +39,20 @@ line_of subject (answer.Limit limit) = codes "undecided " ++ (subject ++ codes "
 line_of subject answer.Unchecked = codes "undecided " ++ (subject ++ codes "\n")
 
 -- a package, as it is named in its line
-abbrev pub named : PackageAnswer → List ℕ
-named found = found.name ++ (codes " " ++ found.version)
+abbrev pub subject_of : PackageAnswer → List ℕ
+subject_of answered = answered.name ++ (codes " " ++ answered.version)
 
 -- the line of a package
 abbrev pub package_line : PackageAnswer → List ℕ
-package_line found = line_of (named found) found.installability
+package_line answered = line_of (subject_of answered) answered.installability
 
 -- the packages that are broken
 abbrev pub broken_of : List PackageAnswer → List PackageAnswer
-broken_of answers = filter (λ found. is_broken found.installability) answers
+broken_of answers = filter (λ answered. is_broken answered.installability) answers
 
 -- the packages that are undecided
 abbrev pub undecided_of : List PackageAnswer → List PackageAnswer
-undecided_of answers = filter (λ found. is_undecided found.installability) answers
+undecided_of answers = filter (λ answered. is_undecided answered.installability) answers
 
 -- how many are undecided, where some are
 abbrev pub undecided_words : ℕ → List ℕ
@@ -108,7 +108,7 @@ objects_by subject members answered = if is_met answered then [] else object_of 
 
 -- so of a package
 abbrev pub package_objects : PackageAnswer → List Data
-package_objects answered = objects_by (named answered) (with_package answered no_members) answered.installability
+package_objects answered = objects_by (subject_of answered) (with_package answered no_members) answered.installability
 
 -- the objects of the lines of what stands beside each package and of the packages, in their order
 abbrev pub answer_objects : Surveyed → List Data
@@ -123,8 +123,8 @@ survey_counts_data answers = object (with_number (codes "undecided") (length (un
 -- undecided where a request is, no where one has no selection, and success where each has one
 abbrev pub exit_of_survey : Surveyed → Exit
 exit_of_survey surveyed =
-    if is_undecided surveyed.base || list_any (λ found. is_undecided found.installability) surveyed.packages then exit.Undecided
-    else if is_broken surveyed.base || list_any (λ found. is_broken found.installability) surveyed.packages then exit.No
+    if is_undecided surveyed.base || list_any (λ answered. is_undecided answered.installability) surveyed.packages then exit.Undecided
+    else if is_broken surveyed.base || list_any (λ answered. is_broken answered.installability) surveyed.packages then exit.No
     else exit.Success
 
 -- how all requests are answered, in a word
@@ -163,10 +163,10 @@ IsSurveyIn format.Json surveyed printed = AreJsonLines (survey_objects surveyed)
 
 -- the outcome is that of the answers about packages: they on standard output, in this format, a refusal's line on standard error
 abbrev pub IsOutcomeOfSurvey : Format → Result Surveyed Refusal → Outcome → Type 0
-IsOutcomeOfSurvey written (Ok surveyed) found =
-    (printed : List ℕ) × (found ≡ outcome.Answer printed (exit_of_survey surveyed)) × IsSurveyIn written surveyed printed
-IsOutcomeOfSurvey written (Err refusal) found = IsOutcomeOfRefusal refusal found
+IsOutcomeOfSurvey written (Ok surveyed) made =
+    (printed : List ℕ) × (made ≡ outcome.Answer printed (exit_of_survey surveyed)) × IsSurveyIn written surveyed printed
+IsOutcomeOfSurvey written (Err refusal) made = IsOutcomeOfRefusal refusal made
 
 -- the file at this path couldn't be written (E26)
 abbrev pub IsFileUnwritten : List ℕ → Outcome → Type 0
-IsFileUnwritten path found = found ≡ outcome.Complaint (codes "debplan: " ++ (path ++ codes ": E26 Write\n")) exit.Device
+IsFileUnwritten path printed = printed ≡ outcome.Complaint (codes "debplan: " ++ (path ++ codes ": E26 Write\n")) exit.Device

@@ -5,7 +5,7 @@ ghost use Rattle.std.specs.Fmt.{signed_decimal};
 ghost use Rattle.std.specs.Option.{option_copied};
 ghost use Rattle.outcomes.specs.Answer as Spec;
 
-use cli_engine::{Answered, Candidate, RefutationVerdict, Solved, Undecided};
+use cli_engine::{Answered, CandidateAnswer, RefutationVerdict, Solved, Undecided};
 use plantext::{write_plan, write_plan_2};
 use refutation_text::write_refutation;
 use rules::{Reason, Rule, Text, Verdict};
@@ -36,12 +36,12 @@ pub fn refutation_line(alloc: Global, verdict: &RefutationVerdict) -> Result<Vec
 
 /// The text that is printed of the answer to a request: a plan, in version 2 where the request asks for all versions, a refutation, with
 /// its pairs named where that is asked for, or `undecided` with what it is undecided for. Memory alone can fail.
-pub fn solved_text(alloc: Global, found: &Answered) -> Result<Vec<u8>, AllocError>
-    ensures { IfOk result (λ text. text.items ≡ Spec.solved_text found.now) }
+pub fn solved_text(alloc: Global, answered: &Answered) -> Result<Vec<u8>, AllocError>
+    ensures { IfOk result (λ text. text.items ≡ Spec.solved_text answered.now) }
 {
-    match &found.naming {
+    match &answered.naming {
         Some(text) => text.as_slice().to_vec(alloc),
-        None => text_for(alloc, &found.solved, found.asks_all_versions),
+        None => text_for(alloc, &answered.solved, answered.asks_all_versions),
     }
 }
 
@@ -97,12 +97,14 @@ pub fn comparison_line(alloc: Global, answer: bool) -> Result<Vec<u8>, AllocErro
 pub fn candidate_lines(
     alloc: Global,
     names: &[&str],
-    found: &[Option<Candidate>],
+    candidates: &[Option<CandidateAnswer>],
 ) -> Result<Vec<u8>, AllocError>
-    ensures { IfOk result (λ lines. lines.items ≡ Spec.candidate_lines (map (λ name. name.now) names.now) found.now) }
+    ensures { IfOk result
+        (λ lines. lines.items
+        ≡ Spec.candidate_lines (map (λ name. name.now) names.now) candidates.now) }
 {
     let mut lines = Vec::new(alloc);
-    let mut rest = found;
+    let mut rest = candidates;
     for name in names {
         let Some((candidate, behind)) = rest.split_first() else {
             return Ok(lines);
@@ -118,11 +120,12 @@ pub fn candidate_lines(
 pub fn candidate_line(
     alloc: Global,
     name: &[u8],
-    found: Option<&Candidate>,
+    candidate: Option<&CandidateAnswer>,
 ) -> Result<Vec<u8>, AllocError>
-    ensures { IfOk result (λ line. line.items ≡ Spec.candidate_line name.now (option_copied found.entry)) }
+    ensures { IfOk result
+        (λ line. line.items ≡ Spec.candidate_line name.now (option_copied candidate.entry)) }
 {
-    match found {
+    match candidate {
         None => line_of_words(alloc, name, b"none"),
         Some(candidate) => rated_line(alloc, name, candidate.version(), candidate.priority()),
     }
@@ -130,7 +133,8 @@ pub fn candidate_line(
 
 // The line of two words.
 fn line_of_words(alloc: Global, word: &[u8], other: &[u8]) -> Result<Vec<u8>, AllocError>
-    ensures { IfOk result (λ line. line.items ≡ word.now ++ (codes " " ++ (other.now ++ codes "\n"))) }
+    ensures { IfOk result
+        (λ line. line.items ≡ word.now ++ (codes " " ++ (other.now ++ codes "\n"))) }
 {
     let mut line = word.to_vec(alloc)?;
     line.extend_from_slice(b" ")?;
@@ -147,7 +151,8 @@ fn rated_line(
     priority: i32,
 ) -> Result<Vec<u8>, AllocError>
     ensures { IfOk result (λ line. line.items
-        ≡ name.now ++ (codes " " ++ ((version.now ++ (codes " " ++ signed_decimal priority)) ++ codes "\n"))) }
+        ≡ name.now ++ (codes " "
+        ++ ((version.now ++ (codes " " ++ signed_decimal priority)) ++ codes "\n"))) }
 {
     let mut words = version.to_vec(alloc)?;
     let priority = format!(in alloc; " {priority}")?;
@@ -157,7 +162,9 @@ fn rated_line(
 
 // The line of a step that breaks a rule.
 fn step_line(alloc: Global, number: usize, rule: Rule) -> Result<Vec<u8>, AllocError>
-    ensures { IfOk result (λ line. line.items ≡ codes "no step " ++ (decimal number ++ (codes " " ++ (Spec.rule_words rule ++ codes "\n")))) }
+    ensures { IfOk result
+        (λ line. line.items ≡ codes "no step "
+        ++ (decimal number ++ (codes " " ++ (Spec.rule_words rule ++ codes "\n")))) }
 {
     let rule = rule_words(rule);
     Ok(format!(in alloc; "no step {number} {rule}\n")?.into_bytes())
@@ -165,7 +172,8 @@ fn step_line(alloc: Global, number: usize, rule: Rule) -> Result<Vec<u8>, AllocE
 
 // The line of a reason against the end.
 fn end_line(alloc: Global, reason: &Reason) -> Result<Vec<u8>, AllocError>
-    ensures { IfOk result (λ line. line.items ≡ codes "no end F11 " ++ (Spec.reason_words reason.now ++ codes "\n")) }
+    ensures { IfOk result
+        (λ line. line.items ≡ codes "no end F11 " ++ (Spec.reason_words reason.now ++ codes "\n")) }
 {
     match reason {
         Reason::Unfinished(name) => named_line(alloc, "Unfinished", name),
@@ -178,7 +186,8 @@ fn end_line(alloc: Global, reason: &Reason) -> Result<Vec<u8>, AllocError>
 // The line of a reason that names a package.
 fn named_line(alloc: Global, reason: &str, name: &Text) -> Result<Vec<u8>, AllocError>
     ensures { IfOk result (λ line.
-        line.items ≡ ((codes "no end F11 " ++ (reason.now ++ codes " ")) ++ name.now) ++ codes "\n") }
+        line.items ≡ ((codes "no end F11 " ++ (reason.now ++ codes " ")) ++ name.now)
+        ++ codes "\n") }
 {
     let mut line = format!(in alloc; "no end F11 {reason} ")?.into_bytes();
     line.extend_from_slice(name.as_bytes())?;

@@ -4,7 +4,7 @@ ghost use Rattle.std.specs.List.{list_all};
 ghost use Rattle.outcomes.specs.Exit as Spec;
 
 use apply::{BeginError, CatchUpError, RunError};
-use cli_engine::{Candidate, Fault, Refusal, RefutationVerdict, Solved};
+use cli_engine::{CandidateAnswer, Fault, Refusal, RefutationVerdict, Solved};
 use journal::{CreateError, OpenError};
 use rules::Verdict;
 
@@ -80,20 +80,20 @@ pub fn exit_of_comparison(answer: bool) -> Exit
 }
 
 /// How the program ends with these candidates of names, of which some may have none.
-pub fn exit_of_candidates(found: &[Option<Candidate>]) -> Exit
-    ensures { result ≡ Spec.exit_of_candidates found.now }
+pub fn exit_of_candidates(candidates: &[Option<CandidateAnswer>]) -> Exit
+    ensures { result ≡ Spec.exit_of_candidates candidates.now }
 {
-    if are_all_there(found) {
+    if are_all_there(candidates) {
         Exit::Success
     } else {
         Exit::No
     }
 }
 
-fn are_all_there(found: &[Option<Candidate>]) -> bool
-    ensures { result ≡ list_all is_some found.now }
+fn are_all_there(candidates: &[Option<CandidateAnswer>]) -> bool
+    ensures { result ≡ list_all is_some candidates.now }
 {
-    found.iter().all(|candidate| candidate.is_some())
+    candidates.iter().all(|candidate| candidate.is_some())
 }
 
 /// How the program ends with this refusal: files and memory (E1, E5) have a status of their own.

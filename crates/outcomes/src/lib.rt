@@ -1,5 +1,5 @@
 //! What is printed of each answer, and with which status the program ends. It stands on the crates of the answers (`cli_engine`,
-//! `installable`, `apply`) and on `documents` for answers as JSON. The main type is `Outcome`, the main call `print`; begin with
+//! `installable`, `apply`) and on `json_answers` for answers as JSON. The main type is `Outcome`, the main call `print`; begin with
 //! `specs/Outcome.antt`.
 #![tactic(auto)]
 

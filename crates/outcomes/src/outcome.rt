@@ -3,7 +3,7 @@ ghost use Rattle.std.specs.Prelude.{◌≡◌, ◌≢◌, IfOk, map};
 ghost use Rattle.clap.specs.Values.{kind_of};
 ghost use Rattle.outcomes.specs.Answer.{applied_line, solved_text, verdict_line};
 ghost use Rattle.outcomes.specs.Exit.{exit_of_solved, exit_of_verdict};
-ghost use Rattle.outcomes.specs.Outcome.{IsComplaint, IsOutcomeIn, IsOutcomeOfCandidates, IsOutcomeOfComparison, IsOutcomeOfKind, IsOutcomeOfOneFile, IsOutcomeOfPlan, IsOutcomeOfRefusal, IsOutcomeOfRefutation, IsOutcomeOfSolved, IsOutcomeOfStopped, IsOutcomeOfUnbegun, IsPrintedAs, IsRequestUnwritten, IsUnwritten};
+ghost use Rattle.outcomes.specs.Outcome.{IsOutcomeIn, IsOutcomeOfCandidates, IsOutcomeOfComparison, IsOutcomeOfKind, IsOutcomeOfOneFile, IsOutcomeOfPlan, IsOutcomeOfRefusal, IsOutcomeOfRefutation, IsOutcomeOfSolved, IsOutcomeOfStopped, IsOutcomeOfUnbegun, IsPrintedAs, IsRequestUnwritten, IsUnwritten, one_file_line as line_of_one_file};
 ghost use Rattle.outcomes.specs.declared.exit.Exit.TheVariants as exit;
 ghost use Rattle.outcomes.specs.declared.outcome.Outcome.TheVariants as printed;
 ghost use Rattle.serde_json.specs.View.{members_view};
@@ -18,10 +18,11 @@ use crate::exit::{
 use apply::{BeginError, CatchUpError, RunError};
 use clap::Error;
 use clap::error::ErrorKind;
-use cli_engine::{Answered, Candidate, JudgedPlan, JudgedRefutation, Refusal};
+use cli_engine::{Answered, CandidateAnswer, JudgedPlan, JudgedRefutation, Refusal};
 use command_line::{COMMANDS, Format};
-use documents::{Members, document};
 use journal::{CreateError, OpenError};
+use json_answers::{Members, document};
+use refusal_lines::{refusal_line, stopped_line, unbegun_line};
 use rules::{Items, Verdict};
 use std::alloc::{AllocError, Global};
 
@@ -50,7 +51,9 @@ pub fn outcome_of_plan(
 
 /// What is printed of a verdict on a plan: its line on standard output. Memory alone can fail.
 pub fn outcome_of_verdict(alloc: Global, verdict: &Verdict) -> Result<Outcome, AllocError>
-    ensures { IfOk result (λ outcome. outcome ≡ printed.Answer (verdict_line verdict.now) (exit_of_verdict verdict.now)) }
+    ensures { IfOk result
+        (λ outcome. outcome
+        ≡ printed.Answer (verdict_line verdict.now) (exit_of_verdict verdict.now)) }
 {
     let line = Items::new(verdict_line(alloc, verdict)?);
     Ok(Outcome::Answer(line, exit_of_verdict(verdict)))
@@ -89,7 +92,9 @@ pub fn outcome_of_solved(
 
 /// What is printed of what is answered to a request: its text on standard output. Memory alone can fail.
 pub fn outcome_of_answered(alloc: Global, answered: &Answered) -> Result<Outcome, AllocError>
-    ensures { IfOk result (λ outcome. outcome ≡ printed.Answer (solved_text answered.now) (exit_of_solved answered.now.solved)) }
+    ensures { IfOk result
+        (λ outcome. outcome
+        ≡ printed.Answer (solved_text answered.now) (exit_of_solved answered.now.solved)) }
 {
     let text = Items::new(solved_text(alloc, answered)?);
     Ok(Outcome::Answer(text, exit_of_solved(&answered.solved)))
@@ -116,9 +121,10 @@ pub fn outcome_of_comparison(
 pub fn outcome_of_candidates(
     alloc: Global,
     names: &[&str],
-    answer: &Result<Items<Option<Candidate>>, Refusal>,
+    answer: &Result<Items<Option<CandidateAnswer>>, Refusal>,
 ) -> Result<Outcome, AllocError>
-    ensures { IfOk result (λ outcome. IsOutcomeOfCandidates (map (λ name. name.now) names.now) answer.now outcome) }
+    ensures { IfOk result
+        (λ outcome. IsOutcomeOfCandidates (map (λ name. name.now) names.now) answer.now outcome) }
 {
     match answer {
         Ok(candidates) => {
@@ -171,14 +177,6 @@ pub fn outcome_of_refusal(alloc: Global, refusal: &Refusal) -> Result<Outcome, A
     Ok(Outcome::Complaint(line, exit_of_refusal(refusal)))
 }
 
-// The line that is printed of a refusal.
-fn refusal_line(alloc: Global, refusal: &Refusal) -> Result<Vec<u8>, AllocError>
-    ensures { IfOk result (λ line. IsComplaint line.items) }
-{
-    let refusal = refusal.to_string(alloc)?;
-    Ok(format!(in alloc; "debplan: {refusal}\n")?.into_bytes())
-}
-
 /// What is printed of a plan for which no journal is made, for this. Where memory was wanting, that fails here. Memory alone can fail.
 pub fn outcome_of_unbegun(alloc: Global, e: BeginError) -> Result<Outcome, AllocError>
     ensures { IfOk result (IsOutcomeOfUnbegun e) }
@@ -187,8 +185,7 @@ pub fn outcome_of_unbegun(alloc: Global, e: BeginError) -> Result<Outcome, Alloc
         BeginError::NotRead(OpenError::OutOfMemory)
         | BeginError::NotCreated(CreateError::OutOfMemory) => Err(AllocError),
         _ => {
-            let said = e.to_string(alloc)?;
-            let line = complaint_of(alloc, "journal", said.as_str())?;
+            let line = Items::new(unbegun_line(alloc, e)?);
             Ok(Outcome::Complaint(line, exit_of_begin_error(e)))
         }
     }
@@ -202,25 +199,22 @@ pub fn outcome_of_stopped(alloc: Global, e: &RunError<'_>) -> Result<Outcome, Al
     if is_for_memory(e) {
         return Err(AllocError);
     }
-    let said = e.to_string(alloc)?;
-    let line = complaint_of(alloc, "journal", said.as_str())?;
+    let line = Items::new(stopped_line(alloc, e)?);
     Ok(Outcome::Complaint(line, exit_of_run_error(e)))
 }
 
-// The line that this is said of a place.
-fn complaint_of(alloc: Global, place: &str, said: &str) -> Result<Items<u8>, AllocError>
-    ensures { IfOk result (λ line. IsComplaint line) }
+// The line that says that two places are one file.
+fn one_file_line(alloc: Global, first: &str, other: &str) -> Result<Vec<u8>, AllocError>
+    ensures { IfOk result (λ line. line.items ≡ line_of_one_file first.now other.now) }
 {
-    let said = format!(in alloc; "{place}: {said}")?;
-    Ok(Items::new(format!(in alloc; "debplan: {said}\n")?.into_bytes()))
+    Ok(format!(in alloc; "debplan: {first} and {other} are one file\n")?.into_bytes())
 }
 
 /// What is printed of words that name one file in these two places. Memory alone can fail.
 pub fn outcome_of_one_file(alloc: Global, first: &str, other: &str) -> Result<Outcome, AllocError>
     ensures { IfOk result IsOutcomeOfOneFile }
 {
-    let said = format!(in alloc; "{first} and {other} are one file")?;
-    let line = Items::new(format!(in alloc; "debplan: {said}\n")?.into_bytes());
+    let line = Items::new(one_file_line(alloc, first, other)?);
     Ok(Outcome::Complaint(line, Exit::Usage))
 }
 
@@ -258,7 +252,9 @@ fn is_for_memory(e: &RunError<'_>) -> bool {
 
 /// What is printed of words that ask for help or are wrong. Memory alone can fail.
 pub fn outcome_of_usage(alloc: Global, error: &Error) -> Result<Outcome, AllocError>
-    ensures { IfOk result (λ outcome. (kind_of error.now ≢ ErrorKind.OutOfMemory) × IsOutcomeOfKind (kind_of error.now) outcome) }
+    ensures { IfOk result
+        (λ outcome. (kind_of error.now ≢ ErrorKind.OutOfMemory)
+        × IsOutcomeOfKind (kind_of error.now) outcome) }
 {
     match error.kind() {
         ErrorKind::OutOfMemory => Err(AllocError),

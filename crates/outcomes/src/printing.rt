@@ -1,13 +1,12 @@
 // Writing what is printed.
-ghost use Rattle.std.specs.Prelude.{◌≡◌, OnOk};
-ghost use Rattle.std.specs.Io.KnownBytes.{Appends};
-ghost use Rattle.outcomes.specs.Outcome.{IsWritten};
+ghost use Rattle.std.specs.Prelude.{◌≡◌, codes};
+ghost use Rattle.conversation.specs.Stream.{written_on};
 ghost use Rattle.outcomes.specs.Exit.{code_of, exit_of_ended};
+ghost use Rattle.outcomes.specs.Outcome.{IsEndSaid, IsNoted, IsSaid, IsWritten, streams_on};
 
 use crate::exit::Exit;
 use crate::outcome::Outcome;
-use conversation::Ended;
-use std::io;
+use conversation::{Ended, Stream, Unwritten};
 use std::io::Write;
 
 /// Writes what is printed, and behind it these sentences on standard error, and gives the exit status. A failure to write on
@@ -15,57 +14,72 @@ use std::io::Write;
 pub fn print<W: Write, E: Write>(
     outcome: &Outcome,
     sentences: &[u8],
-    out: &mut W,
-    err: &mut E,
+    out: &mut Stream<W>,
+    err: &mut Stream<E>,
 ) -> u8
-    ensures { IsWritten outcome.now (W.contents out.old) (W.contents out.new) result }
+    ensures { IsWritten outcome.now (streams_on W.contents E.contents out.old err.old)
+        (streams_on W.contents E.contents out.new err.new) result }
 {
     let status = print_outcome(outcome, out, err);
-    if !sentences.is_empty() {
-        let _unwritten = write_whole(err, sentences);
-    }
+    note(err, sentences);
     status
 }
 
 // Writes what is printed and gives the exit status.
-fn print_outcome<W: Write, E: Write>(outcome: &Outcome, out: &mut W, err: &mut E) -> u8
-    ensures { IsWritten outcome.now (W.contents out.old) (W.contents out.new) result }
+fn print_outcome<W: Write, E: Write>(
+    outcome: &Outcome,
+    out: &mut Stream<W>,
+    err: &mut Stream<E>,
+) -> u8
+    ensures { IsWritten outcome.now (streams_on W.contents E.contents out.old err.old)
+        (streams_on W.contents E.contents out.new err.new) result }
 {
     match outcome {
-        Outcome::Answer(text, exit) => match write_whole(out, text.as_slice()) {
+        Outcome::Answer(text, exit) => match out.write(text.as_slice()) {
             Ok(()) => exit.code(),
-            Err(_) => complain(err, b"debplan: output: E26 Write\n", Exit::Device),
+            Err(Unwritten) => complain(err, b"debplan: output: E26 Write\n", Exit::Device),
         },
         Outcome::Complaint(text, exit) => complain(err, text.as_slice(), *exit),
     }
 }
 
-// Writes on standard error, as far as that can be, and gives the exit status.
-fn complain<E: Write>(err: &mut E, text: &[u8], exit: Exit) -> u8
-    ensures { result ≡ code_of exit }
+// Writes sentences on standard error, if there are any, as far as that can be.
+fn note<E: Write>(err: &mut Stream<E>, sentences: &[u8])
+    ensures { IsNoted (written_on E.contents err.old) (written_on E.contents err.new) }
 {
-    let _unwritten = write_whole(err, text);
-    exit.code()
+    if sentences.is_empty() {
+        return;
+    }
+    match err.write(sentences) {
+        Ok(()) => {}
+        Err(Unwritten) => {}
+    }
 }
 
-// Writes the text, and hands it on where the writer keeps it back.
-fn write_whole<W: Write>(to: &mut W, text: &[u8]) -> io::Result<()>
-    ensures { OnOk result (Appends (W.contents to.old) (W.contents to.new) text.now) }
+// Writes on standard error, as far as that can be, and gives the exit status.
+fn complain<E: Write>(err: &mut Stream<E>, text: &[u8], exit: Exit) -> u8
+    ensures status { result ≡ code_of exit }
+    ensures said { IsSaid (written_on E.contents err.old) (written_on E.contents err.new) text.now }
 {
-    to.write_all(text)?;
-    to.flush()
+    match err.write(text) {
+        Ok(()) => exit.code(),
+        Err(Unwritten) => exit.code(),
+    }
 }
 
 /// Prints, without taking memory, that memory was wanting, and gives the exit status.
-pub fn refuse_for_memory<E: Write>(err: &mut E) -> u8
-    ensures { result ≡ 5 }
+pub fn refuse_for_memory<E: Write>(err: &mut Stream<E>) -> u8
+    ensures status { result ≡ 5 }
+    ensures said { IsSaid (written_on E.contents err.old) (written_on E.contents err.new)
+        (codes "debplan: memory: E1 OutOfMemory\n") }
 {
     complain(err, b"debplan: memory: E1 OutOfMemory\n", Exit::Device)
 }
 
 /// Prints, without taking memory, why lines stay without a reply, if any do, and gives the exit status.
-pub fn print_ended<E: Write>(ended: Ended, err: &mut E) -> u8
-    ensures { result ≡ code_of (exit_of_ended ended) }
+pub fn print_ended<E: Write>(ended: Ended, err: &mut Stream<E>) -> u8
+    ensures status { result ≡ code_of (exit_of_ended ended) }
+    ensures said { IsEndSaid ended (written_on E.contents err.old) (written_on E.contents err.new) }
 {
     match ended {
         Ended::Answered => Exit::Success.code(),

@@ -13,22 +13,26 @@ use rules::Items;
 use std::alloc::{AllocError, Global};
 
 // Whether the request has no acceptable selection.
-fn is_broken(found: &Installability) -> bool
-    ensures { result ≡ Spec.is_broken found.now }
+fn is_broken(installability: &Installability) -> bool
+    ensures { result ≡ Spec.is_broken installability.now }
 {
-    matches!(found, Installability::Broken(_))
+    matches!(installability, Installability::Broken(_))
 }
 
 // Whether it isn't known that the request has one.
-fn is_undecided(found: &Installability) -> bool
-    ensures { result ≡ Spec.is_undecided found.now }
+fn is_undecided(installability: &Installability) -> bool
+    ensures { result ≡ Spec.is_undecided installability.now }
 {
-    matches!(found, Installability::Limit(_) | Installability::Unchecked)
+    matches!(
+        installability,
+        Installability::Limit(_) | Installability::Unchecked
+    )
 }
 
 // Writes the word, the subject and the end of a line.
 fn push_line(text: &mut Vec<u8>, word: &[u8], subject: &[u8]) -> Result<(), AllocError>
-    ensures { OnOk result (text.new.items ≡ text.old.items ++ (word.now ++ (subject.now ++ codes "\n"))) }
+    ensures { OnOk result
+        (text.new.items ≡ text.old.items ++ (word.now ++ (subject.now ++ codes "\n"))) }
 {
     text.extend_from_slice(word)?;
     text.extend_from_slice(subject)?;
@@ -36,14 +40,15 @@ fn push_line(text: &mut Vec<u8>, word: &[u8], subject: &[u8]) -> Result<(), Allo
 }
 
 /// Writes the line of a request of this subject, if there is one. Memory alone can fail.
-pub(crate) fn push_found(
+pub(crate) fn push_installability(
     text: &mut Vec<u8>,
     subject: &[u8],
-    found: &Installability,
+    installability: &Installability,
 ) -> Result<(), AllocError>
-    ensures { OnOk result (text.new.items ≡ text.old.items ++ Spec.line_of subject.now found.now) }
+    ensures { OnOk result
+        (text.new.items ≡ text.old.items ++ Spec.line_of subject.now installability.now) }
 {
-    match found {
+    match installability {
         Installability::Installable => Ok(()),
         Installability::Broken(_) => push_line(text, b"broken ", subject),
         Installability::Limit(_) | Installability::Unchecked => {
@@ -53,21 +58,21 @@ pub(crate) fn push_found(
 }
 
 /// The package, as it is named in its line. Memory alone can fail.
-pub(crate) fn named(alloc: Global, found: &PackageAnswer) -> Result<Vec<u8>, AllocError>
-    ensures { IfOk result (λ text. text.items ≡ Spec.named found.now) }
+pub(crate) fn subject_of(alloc: Global, answer: &PackageAnswer) -> Result<Vec<u8>, AllocError>
+    ensures { IfOk result (λ text. text.items ≡ Spec.subject_of answer.now) }
 {
-    let mut text = found.name.as_bytes().to_vec(alloc)?;
+    let mut text = answer.name.as_bytes().to_vec(alloc)?;
     text.extend_from_slice(b" ")?;
-    text.extend_from_slice(found.version.as_bytes())?;
+    text.extend_from_slice(answer.version.as_bytes())?;
     Ok(text)
 }
 
 // Writes the line of a package, if there is one.
-fn push_package(alloc: Global, text: &mut Vec<u8>, found: &PackageAnswer) -> Result<(), AllocError>
-    ensures { OnOk result (text.new.items ≡ text.old.items ++ Spec.package_line found.now) }
+fn push_package(alloc: Global, text: &mut Vec<u8>, answer: &PackageAnswer) -> Result<(), AllocError>
+    ensures { OnOk result (text.new.items ≡ text.old.items ++ Spec.package_line answer.now) }
 {
-    let subject = named(alloc, found)?;
-    push_found(text, subject.as_slice(), &found.installability)
+    let subject = subject_of(alloc, answer)?;
+    push_installability(text, subject.as_slice(), &answer.installability)
 }
 
 // Writes the lines of packages.
@@ -76,10 +81,11 @@ fn push_packages(
     text: &mut Vec<u8>,
     answers: &[PackageAnswer],
 ) -> Result<(), AllocError>
-    ensures { OnOk result (text.new.items ≡ text.old.items ++ flat_map Spec.package_line answers.now) }
+    ensures { OnOk result
+        (text.new.items ≡ text.old.items ++ flat_map Spec.package_line answers.now) }
 {
-    for found in answers {
-        push_package(alloc, text, found)?;
+    for answer in answers {
+        push_package(alloc, text, answer)?;
     }
     Ok(())
 }
@@ -90,7 +96,7 @@ pub(crate) fn count_broken(answers: &[PackageAnswer]) -> usize
 {
     answers
         .iter()
-        .filter(|found| is_broken(&found.installability))
+        .filter(|answer| is_broken(&answer.installability))
         .count()
 }
 
@@ -100,7 +106,7 @@ pub(crate) fn count_undecided(answers: &[PackageAnswer]) -> usize
 {
     answers
         .iter()
-        .filter(|found| is_undecided(&found.installability))
+        .filter(|answer| is_undecided(&answer.installability))
         .count()
 }
 
@@ -133,7 +139,7 @@ pub fn survey_text(alloc: Global, surveyed: &Surveyed) -> Result<Vec<u8>, AllocE
 {
     let packages = surveyed.packages.as_slice();
     let mut text = Vec::new(alloc);
-    push_found(&mut text, b"base", &surveyed.base)?;
+    push_installability(&mut text, b"base", &surveyed.base)?;
     push_packages(alloc, &mut text, packages)?;
     let counts = counts_line(alloc, packages)?;
     text.extend_from_slice(counts.as_slice())?;
@@ -142,18 +148,20 @@ pub fn survey_text(alloc: Global, surveyed: &Surveyed) -> Result<Vec<u8>, AllocE
 
 // Whether one of the packages is broken.
 fn has_broken(answers: &[PackageAnswer]) -> bool
-    ensures { result ≡ list_any (λ found. Spec.is_broken found.installability) answers.now }
+    ensures { result ≡ list_any (λ answer. Spec.is_broken answer.installability) answers.now }
 {
-    answers.iter().any(|found| is_broken(&found.installability))
+    answers
+        .iter()
+        .any(|answer| is_broken(&answer.installability))
 }
 
 // Whether one of the packages is undecided.
 fn has_undecided(answers: &[PackageAnswer]) -> bool
-    ensures { result ≡ list_any (λ found. Spec.is_undecided found.installability) answers.now }
+    ensures { result ≡ list_any (λ answer. Spec.is_undecided answer.installability) answers.now }
 {
     answers
         .iter()
-        .any(|found| is_undecided(&found.installability))
+        .any(|answer| is_undecided(&answer.installability))
 }
 
 /// How the program ends with these answers about packages: undecided where one is, and else no where one is broken.

@@ -1,7 +1,7 @@
 //! What is printed of packages that are asked about, as JSON texts: one for each line.
 ghost use Rattle.std.specs.Prelude.{◌≡◌, ◌++◌, IfOk, OnOk, map};
 ghost use Rattle.std.specs.List.{flat_map};
-ghost use Rattle.documents.specs.Document.{object_with};
+ghost use Rattle.json_answers.specs.Document.{object_with};
 ghost use Rattle.outcomes.specs.Survey as Spec;
 ghost use Rattle.outcomes.specs.Survey.{AreJsonLines};
 ghost use Rattle.serde_json.specs.Data.{no_members};
@@ -9,12 +9,12 @@ ghost use Rattle.serde_json.specs.View.{members_view, view};
 
 use crate::exit::Exit;
 use crate::survey::{
-    count_broken, count_undecided, counts_line, exit_of_survey, named, push_found,
-};
-use documents::{
-    Members, line_of, push_value, put_sentences, put_text, put_undecided, text_object, text_value,
+    count_broken, count_undecided, counts_line, exit_of_survey, push_installability, subject_of,
 };
 use installable::{Installability, PackageAnswer, Refuted, Surveyed};
+use json_answers::{
+    Members, line_of, push_value, put_sentences, put_text, put_undecided, text_object, text_value,
+};
 use serde_json::{Value, json};
 use std::alloc::{AllocError, Global};
 
@@ -50,7 +50,8 @@ fn put_installability(
 
 // The members of what stands beside each package: it has neither a name nor a version.
 fn members_of_base(alloc: Global) -> Result<Members, AllocError>
-    ensures { IfOk result (λ members. members_view members.map.entries ≡ Spec.without_package no_members) }
+    ensures { IfOk result
+        (λ members. members_view members.map.entries ≡ Spec.without_package no_members) }
 {
     let mut members = Members::new(alloc);
     members.put(alloc, "name", Value::Null)?;
@@ -60,7 +61,8 @@ fn members_of_base(alloc: Global) -> Result<Members, AllocError>
 
 // The members with the name and the version of a package.
 fn members_of_package(alloc: Global, answer: &PackageAnswer) -> Result<Members, AllocError>
-    ensures { IfOk result (λ members. members_view members.map.entries ≡ Spec.with_package answer.now no_members) }
+    ensures { IfOk result
+        (λ members. members_view members.map.entries ≡ Spec.with_package answer.now no_members) }
 {
     let name = text_value(alloc, answer.name.as_bytes())?;
     let version = text_value(alloc, answer.version.as_bytes())?;
@@ -78,12 +80,13 @@ fn object_of(
     installability: &Installability,
 ) -> Result<Value, AllocError>
     ensures { IfOk result (λ value.
-        view value ≡ Spec.object_of subject.now (members_view members.map.entries) installability.now) }
+        view value ≡ Spec.object_of subject.now
+        (members_view members.map.entries) installability.now) }
 {
     let mut all = members;
     put_installability(alloc, &mut all, installability)?;
     let mut line = Vec::new(alloc);
-    push_found(&mut line, subject, installability)?;
+    push_installability(&mut line, subject, installability)?;
     text_object(alloc, all, line.as_slice())
 }
 
@@ -118,9 +121,11 @@ fn push_package(
     objects: &mut Vec<Value>,
     answer: &PackageAnswer,
 ) -> Result<(), AllocError>
-    ensures { OnOk result (map view objects.new.items ≡ map view objects.old.items ++ Spec.package_objects answer.now) }
+    ensures { OnOk result
+        (map view objects.new.items ≡ map view objects.old.items
+        ++ Spec.package_objects answer.now) }
 {
-    let subject = named(alloc, answer)?;
+    let subject = subject_of(alloc, answer)?;
     let members = members_of_package(alloc, answer)?;
     push_answer(
         alloc,
@@ -137,7 +142,9 @@ fn push_packages(
     objects: &mut Vec<Value>,
     answers: &[PackageAnswer],
 ) -> Result<(), AllocError>
-    ensures { OnOk result (map view objects.new.items ≡ map view objects.old.items ++ flat_map Spec.package_objects answers.now) }
+    ensures { OnOk result
+        (map view objects.new.items ≡ map view objects.old.items
+        ++ flat_map Spec.package_objects answers.now) }
 {
     for answer in answers {
         push_package(alloc, objects, answer)?;
@@ -227,7 +234,8 @@ pub(crate) fn survey_documents(alloc: Global, surveyed: &Surveyed) -> Result<Vec
 /// The members of one document of the answers about packages: whether all can be installed, how many packages are so, and as `packages`
 /// the objects of their lines, as each has a document of its own. Memory alone can fail.
 pub fn members_of_survey(alloc: Global, surveyed: &Surveyed) -> Result<Members, AllocError>
-    ensures { IfOk result (λ members. members_view members.map.entries ≡ Spec.with_survey surveyed.now no_members) }
+    ensures { IfOk result
+        (λ members. members_view members.map.entries ≡ Spec.with_survey surveyed.now no_members) }
 {
     let mut members = Members::new(alloc);
     put_counts(alloc, &mut members, surveyed)?;

@@ -4,7 +4,7 @@ use Rattle.std.proofs.lemmas.List.{drop_more}
 use Rattle.std.specs.Borrow.{Bor}
 use Rattle.rules.specs.declared.release.ReleaseItem.{ReleaseItem}
 use Rattle.pins.specs.Pin.{item_of, items_in, with_item, with_items}
-use Rattle.pins.specs.Words.{trimmed}
+use Rattle.pins.specs.Words.{trim}
 
 pub with_items-none : (later : Option (List ReleaseItem)) → with_items [] later ≡ later
 with_items-none None = refl
@@ -17,7 +17,7 @@ with_items-more items item (Some later) = ap Some (append_assoc items (item ∷ 
 
 -- the next part's item stands behind those so far
 pub items_in-next : (items : List ReleaseItem) (item : ReleaseItem) (parts : List (Bor (List ℕ))) (i : ℕ) (d : Bor (List ℕ)) → i < length parts
-    → item_of (trimmed (get_or parts i d).now) ≡ Some item
+    → item_of (trim (get_or parts i d).now) ≡ Some item
     → with_items items (items_in (map (λ part. part.now) (drop i parts)))
     ≡ with_items (items ++ item ∷ []) (items_in (map (λ part. part.now) (drop (i + 1) parts)))
 items_in-next items item parts i d within is =

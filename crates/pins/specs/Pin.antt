@@ -10,7 +10,7 @@ use Rattle.rules.specs.declared.release.Pin.TheVariants as pin
 use Rattle.rules.specs.declared.release.ReleaseItem.{ReleaseItem}
 use Rattle.rules.specs.declared.release.ReleaseKey.{ReleaseKey}
 use Rattle.rules.specs.declared.release.ReleaseKey.TheVariants as key
-use Rattle.pins.specs.Words.{after_word, before_last, ends_with_byte, is_newline, is_nothing, trimmed, word_of}
+use Rattle.pins.specs.Words.{after_word, before_last, ends_with_byte, is_newline, is_nothing, trim, word_of}
 
 -- the text, if it is a version (deb-version(7))
 abbrev pub version_in : List ℕ → Option (List ℕ)
@@ -59,7 +59,7 @@ with_item item later = option_and_then (λ first. with_items (first ∷ []) late
 -- the items that these texts are, white space at their ends apart, if each is one
 abbrev pub items_in : List (List ℕ) → Option (List ReleaseItem)
 items_in [] = Some []
-items_in (text ∷ later) = with_item (item_of (trimmed text)) (items_in later)
+items_in (text ∷ later) = with_item (item_of (trim text)) (items_in later)
 
 -- the pin by release keys: what stands between commas are its items
 abbrev pub release_pin : List ℕ → Option Pin

@@ -11,4 +11,4 @@ priority_by prefs version origin = priority_in prefs.preferences prefs.target ve
 -- the greater of a number, if there is one, and another
 abbrev pub greater : Option ℤ → ℤ → ℤ
 greater None number = number
-greater (Some found) number = int_max found number
+greater (Some greatest) number = int_max greatest number

@@ -34,8 +34,8 @@ abbrev pub after_word : List ℕ → List ℕ
 after_word text = trim_front (drop (prefix_len is_word_byte text) text)
 
 -- the text without the white space at its ends
-abbrev pub trimmed : List ℕ → List ℕ
-trimmed text = trim_end (trim_front text)
+abbrev pub trim : List ℕ → List ℕ
+trim text = trim_end (trim_front text)
 
 -- the text ends with this byte
 abbrev pub ends_with_byte : ℕ → List ℕ → Bool

@@ -22,7 +22,8 @@ fn is_version(version: &Version<'_>, pinned: &VersionText) -> bool
 }
 
 fn has_items(origin: &Origin<'_>, items: &[ReleaseItem]) -> bool
-    ensures { result ≡ list_all (λ item. Priority.has_key origin.now.release item.key item.value) items.now }
+    ensures { result
+        ≡ list_all (λ item. Priority.has_key origin.now.release item.key item.value) items.now }
 {
     items
         .iter()
@@ -67,7 +68,8 @@ fn names_all(names: &PinnedNames) -> bool
 }
 
 fn matches_one(pin: &Pin, version: &Version<'_>, origins: &[Origin<'_>]) -> bool
-    ensures { result ≡ list_any (λ origin. Priority.pin_matches pin.now version.now origin.release) origins.now }
+    ensures { result
+        ≡ list_any (λ origin. Priority.pin_matches pin.now version.now origin.release) origins.now }
 {
     origins
         .iter()
@@ -81,7 +83,8 @@ fn decides(
     origins: &[Origin<'_>],
 ) -> bool
     ensures { result ≡ (Priority.names_it name.now preference.now.names
-        && list_any (λ origin. Priority.pin_matches preference.now.pin version.now origin.release) origins.now) }
+        && list_any (λ origin.
+        Priority.pin_matches preference.now.pin version.now origin.release) origins.now) }
 {
     names_it(name, &preference.names) && matches_one(&preference.pin, version, origins)
 }
@@ -100,7 +103,8 @@ pub fn deciding_among<'r>(
     version: &Version<'_>,
     origins: &[Origin<'_>],
 ) -> Option<&'r Preference>
-    ensures { option_copied result ≡ Priority.deciding_among records.now name.now version.now origins.now }
+    ensures { option_copied result
+        ≡ Priority.deciding_among records.now name.now version.now origins.now }
 {
     records
         .iter()

@@ -34,7 +34,8 @@ impl Model for Prefs {
 
 // The records of a text that isn't too long.
 fn records_in(alloc: Global, text: &[u8]) -> Result<Vec<Preference>, PrefsError>
-    ensures ok { IfOk result (λ records. records_in (items_of Commented text.now) ≡ Ok records.items) }
+    ensures ok { IfOk result
+        (λ records. records_in (items_of Commented text.now) ≡ Ok records.items) }
     ensures err { IfErr result (λ e. IsPrefsFault e (records_in (items_of Commented text.now))) }
 {
     let mut records = Vec::new(alloc);
@@ -62,7 +63,8 @@ impl Prefs {
         ensures ok { IfOk result (λ prefs. (read_preferences text.now ≡ Ok prefs.preferences)
             × (prefs.target ≡ option_copied target.entry)) }
         ensures err { IfErr result (λ e. IsPrefsFault e (read_preferences text.now)) }
-        ensures too_long { TEXT_BYTES < length text.now → result ≡ Err (error.Refused fault.TooLarge) }
+        ensures too_long { TEXT_BYTES < length text.now → result
+            ≡ Err (error.Refused fault.TooLarge) }
     {
         if text.len() > TEXT_BYTES {
             return Err(PrefsFault::TooLarge.into());
@@ -75,7 +77,8 @@ impl Prefs {
 
     /// What holds where there is no preferences file: a target release at most. Memory alone can fail.
     pub fn without_records(alloc: Global, target: Option<&[u8]>) -> Result<Prefs, AllocError>
-        ensures { IfOk result (λ prefs. prefs ≡ record { preferences = []; target = option_copied target.entry }) }
+        ensures { IfOk result
+            (λ prefs. prefs ≡ record { preferences = []; target = option_copied target.entry }) }
     {
         let kept = owned_target(alloc, target)?;
         Ok(Prefs {

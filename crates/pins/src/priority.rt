@@ -14,12 +14,12 @@ use debversion::Version;
 const TARGET: i32 = 990;
 
 // The greater of a priority, if there is one, and another.
-fn greater(found: Option<i32>, priority: i32) -> i32
-    ensures { result ≡ greater found priority }
+fn greater(greatest: Option<i32>, priority: i32) -> i32
+    ensures { result ≡ greater greatest priority }
 {
-    match found {
+    match greatest {
         None => priority,
-        Some(found) => found.max(priority),
+        Some(greatest) => greatest.max(priority),
     }
 }
 
@@ -58,7 +58,8 @@ impl Prefs {
         version: &Version<'_>,
         origins: &[Origin<'_>],
     ) -> Option<i32>
-        ensures { MatchOption result (origins.now ≡ []) (λ priority. HasPriorityAmong self.now.preferences self.now.target
+        ensures { MatchOption result (origins.now ≡ [])
+            (λ priority. HasPriorityAmong self.now.preferences self.now.target
             name.now version.now origins.now priority) }
     {
         match deciding_among(self.records(), name, version, origins) {

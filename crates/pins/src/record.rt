@@ -35,8 +35,10 @@ fn field_named<'a>(name: &[u8], stanza: &Stanza<'a>) -> Option<Field<'a>>
 }
 
 fn read_names(alloc: Global, field: &Field<'_>) -> Result<PinnedNames, PrefsError>
-    ensures ok { IfOk result (λ names. or_bad field.now.line (names_of field.now.value) ≡ Ok names) }
-    ensures err { IfErr result (λ e. IsPrefsFault e (or_bad field.now.line (names_of field.now.value))) }
+    ensures ok { IfOk result
+        (λ names. or_bad field.now.line (names_of field.now.value) ≡ Ok names) }
+    ensures err { IfErr result
+        (λ e. IsPrefsFault e (or_bad field.now.line (names_of field.now.value))) }
 {
     match names_of(alloc, field.value())? {
         None => Err(PrefsFault::BadPin(field.line()).into()),
@@ -46,7 +48,8 @@ fn read_names(alloc: Global, field: &Field<'_>) -> Result<PinnedNames, PrefsErro
 
 fn read_pin(alloc: Global, field: &Field<'_>) -> Result<Pin, PrefsError>
     ensures ok { IfOk result (λ pin. or_bad field.now.line (pin_of field.now.value) ≡ Ok pin) }
-    ensures err { IfErr result (λ e. IsPrefsFault e (or_bad field.now.line (pin_of field.now.value))) }
+    ensures err { IfErr result
+        (λ e. IsPrefsFault e (or_bad field.now.line (pin_of field.now.value))) }
 {
     match pin_of(alloc, field.value())? {
         None => Err(PrefsFault::BadPin(field.line()).into()),
@@ -55,8 +58,10 @@ fn read_pin(alloc: Global, field: &Field<'_>) -> Result<Pin, PrefsError>
 }
 
 fn read_priority(field: &Field<'_>) -> Result<i32, PrefsError>
-    ensures ok { IfOk result (λ priority. or_bad field.now.line (number_of field.now.value) ≡ Ok priority) }
-    ensures err { IfErr result (λ e. IsPrefsFault e (or_bad field.now.line (number_of field.now.value))) }
+    ensures ok { IfOk result
+        (λ priority. or_bad field.now.line (number_of field.now.value) ≡ Ok priority) }
+    ensures err { IfErr result
+        (λ e. IsPrefsFault e (or_bad field.now.line (number_of field.now.value))) }
 {
     match number_of(field.value()) {
         None => Err(PrefsFault::BadPin(field.line()).into()),
@@ -70,7 +75,8 @@ fn read_fields(
     pin: &Field<'_>,
     priority: &Field<'_>,
 ) -> Result<Preference, PrefsError>
-    ensures ok { IfOk result (λ preference. read_fields names.now pin.now priority.now ≡ Ok preference) }
+    ensures ok { IfOk result
+        (λ preference. read_fields names.now pin.now priority.now ≡ Ok preference) }
     ensures err { IfErr result (λ e. IsPrefsFault e (read_fields names.now pin.now priority.now)) }
 {
     Ok(Preference {

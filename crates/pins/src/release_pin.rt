@@ -5,7 +5,7 @@ ghost use Rattle.std.specs.List.{after_first, before_first, position, slice_spli
 ghost use Rattle.pins.specs.Pin as Spec;
 ghost use Rattle.pins.specs.Pin.{is_comma, is_equals, item_of, item_with, items_in, key_of};
 
-use crate::words::{same_text, trimmed};
+use crate::words::{same_text, trim};
 use rules::{Items, ReleaseItem, ReleaseKey, Text};
 use std::alloc::{AllocError, Global};
 
@@ -70,7 +70,8 @@ fn item_of(alloc: Global, text: &[u8]) -> Result<Option<ReleaseItem>, AllocError
 }
 
 fn parts_of<'a>(alloc: Global, text: &'a [u8]) -> Result<Vec<&'a [u8]>, AllocError>
-    ensures { IfOk result (λ parts. map (λ part. part.now) parts.items ≡ slice_split is_comma text.now) }
+    ensures { IfOk result
+        (λ parts. map (λ part. part.now) parts.items ≡ slice_split is_comma text.now) }
 {
     text.split(|byte| *byte == b',').collect(alloc)
 }
@@ -80,7 +81,7 @@ fn items_in(alloc: Global, parts: &[&[u8]]) -> Result<Option<Items<ReleaseItem>>
 {
     let mut items = Vec::new(alloc);
     for part in parts {
-        match item_of(alloc, trimmed(*part))? {
+        match item_of(alloc, trim(*part))? {
             None => return Ok(None),
             Some(item) => items.push(item)?,
         }

@@ -7,7 +7,7 @@ ghost use Rattle.std.specs.Str.{bytes_eq};
 ghost use Rattle.stanza.specs.Field.{trim_end, trim_front};
 ghost use Rattle.stanza.specs.Line as Line;
 ghost use Rattle.pins.specs.Words as Spec;
-ghost use Rattle.pins.specs.Words.{after_word, before_last, is_newline, is_word_byte, trimmed, word_of, words_of};
+ghost use Rattle.pins.specs.Words.{after_word, before_last, is_newline, is_word_byte, trim, word_of, words_of};
 
 use std::alloc::{AllocError, Global};
 
@@ -74,8 +74,8 @@ fn trim_end(text: &[u8]) -> &[u8]
 }
 
 /// The text without the spaces and tabs at its ends.
-pub fn trimmed(text: &[u8]) -> &[u8]
-    ensures { result.now ≡ trimmed text.now }
+pub fn trim(text: &[u8]) -> &[u8]
+    ensures { result.now ≡ trim text.now }
 {
     trim_end(trim_front(text))
 }
@@ -90,7 +90,8 @@ pub fn split_word(text: &[u8]) -> (&[u8], &[u8])
 }
 
 fn parts_of<'a>(alloc: Global, text: &'a [u8]) -> Result<Vec<&'a [u8]>, AllocError>
-    ensures { IfOk result (λ parts. map (λ part. part.now) parts.items ≡ slice_split Spec.is_gap text.now) }
+    ensures { IfOk result
+        (λ parts. map (λ part. part.now) parts.items ≡ slice_split Spec.is_gap text.now) }
 {
     text.split(|byte| is_gap(*byte)).collect(alloc)
 }

@@ -12,26 +12,26 @@ use Rattle.rules.proofs.QuietLemmas.{unnamed}
 use mathlib.Core.Logic.{inl, inr}
 
 -- a record of another name doesn't pass the test of a name
-pub not_named : (name : List ℕ) (found : Record) → found.name ≢ name → is_named name found ≡ false
-not_named name found differ = at (is_named name found) refl
+pub not_named : (name : List ℕ) (entry : Record) → entry.name ≢ name → is_named name entry ≡ false
+not_named name entry differ = at (is_named name entry) refl
   where
-    at : (b : Bool) → is_named name found ≡ b → is_named name found ≡ false
-    at true is = absurd (differ (bytes_eq-true found.name name is))
+    at : (b : Bool) → is_named name entry ≡ b → is_named name entry ≡ false
+    at true is = absurd (differ (bytes_eq-true entry.name name is))
     at false is = is
 
 -- a record that fails the test of a name is of another name
-pub named_not : (name : List ℕ) (found : Record) → is_named name found ≡ false → found.name ≢ name
-named_not name found fails same = absurd (let e : true ≡ false = sym (bytes_eq-same found.name name same) ∙ fails in cc)
+pub named_not : (name : List ℕ) (entry : Record) → is_named name entry ≡ false → entry.name ≢ name
+named_not name entry fails same = absurd (let e : true ≡ false = sym (bytes_eq-same entry.name name same) ∙ fails in cc)
 
 -- a record after a change is a changed one that passes the test, or one that fails it
-pub changed_each : (test : Record → Bool) (change : Record → Record) (db : List Record) (found : Record)
-    → Contains (changed test change db) found
-    → ((old : Record) × Contains db old × (test old ≡ true) × (change old ≡ found)) ⊎ (Contains db found × (test found ≡ false))
-changed_each test change db found within =
-    let old = Contains-map (λ r. cond (test r) (change r) r) db found within in at old.0 old.1 (test old.0) refl old.2
+pub changed_each : (test : Record → Bool) (change : Record → Record) (db : List Record) (entry : Record)
+    → Contains (changed test change db) entry
+    → ((old : Record) × Contains db old × (test old ≡ true) × (change old ≡ entry)) ⊎ (Contains db entry × (test entry ≡ false))
+changed_each test change db entry within =
+    let old = Contains-map (λ r. cond (test r) (change r) r) db entry within in at old.0 old.1 (test old.0) refl old.2
   where
-    at : (old : Record) → Contains db old → (b : Bool) → test old ≡ b → cond b (change old) old ≡ found
-        → ((old : Record) × Contains db old × (test old ≡ true) × (change old ≡ found)) ⊎ (Contains db found × (test found ≡ false))
+    at : (old : Record) → Contains db old → (b : Bool) → test old ≡ b → cond b (change old) old ≡ entry
+        → ((old : Record) × Contains db old × (test old ≡ true) × (change old ≡ entry)) ⊎ (Contains db entry × (test entry ≡ false))
     at old there true is same = inl (old, there, is, same)
     at old there false is same = inr (subst (Contains db) same there, subst (λ r. test r ≡ false) same is)
 
@@ -51,27 +51,27 @@ changed_has test change db old within passes =
 -- what holds of all records, and of what is changed, holds of all behind the change
 pub All-behind : (P : Record → Type 0) (test : Record → Bool) (change : Record → Record) (db : List Record)
     → ((old : Record) → Contains db old → test old ≡ true → P (change old)) → All P db → All P (changed test change db)
-All-behind P test change db each all = All-intro P (changed test change db) (λ found within.
-    elim (changed_each test change db found within) [
+All-behind P test change db each all = All-intro P (changed test change db) (λ entry within.
+    elim (changed_each test change db entry within) [
       | inl made ↦ subst P made.3 (each made.0 made.1 made.2)
-      | inr left ↦ All-contains P db found all left.0
+      | inr left ↦ All-contains P db entry all left.0
     ])
 
 -- a record with a property that a change keeps is some record with it behind the change
-pub Any-behind : (P : Record → Type 0) (test : Record → Bool) (change : Record → Record) (db : List Record) (found : Record)
-    → Contains db found → P found → (test found ≡ true → P (change found)) → Any P (changed test change db)
-Any-behind P test change db found within holds changes = at (test found) refl
+pub Any-behind : (P : Record → Type 0) (test : Record → Bool) (change : Record → Record) (db : List Record) (entry : Record)
+    → Contains db entry → P entry → (test entry ≡ true → P (change entry)) → Any P (changed test change db)
+Any-behind P test change db entry within holds changes = at (test entry) refl
   where
-    at : (b : Bool) → test found ≡ b → Any P (changed test change db)
-    at true is = Any-intro P (changed test change db) (change found) (changed_has test change db found within is) (changes is)
-    at false is = Any-intro P (changed test change db) found (changed_keeps test change db found within is) holds
+    at : (b : Bool) → test entry ≡ b → Any P (changed test change db)
+    at true is = Any-intro P (changed test change db) (change entry) (changed_has test change db entry within is) (changes is)
+    at false is = Any-intro P (changed test change db) entry (changed_keeps test change db entry within is) holds
 
 -- the record is of the package as an unpack leaves it
-pub record IsUnpackedAs (pkg : Pkg) (found : Record) : Type 0 where
-  pub state : found.state ≡ Unpacked
-  pub sound : HasSoundFlag found
-  pub unheld : ¬ IsHeld found
-  pub same : pkg_of found ≡ pkg
+pub record IsUnpackedAs (pkg : Pkg) (entry : Record) : Type 0 where
+  pub state : entry.state ≡ Unpacked
+  pub sound : HasSoundFlag entry
+  pub unheld : ¬ IsHeld entry
+  pub same : pkg_of entry ≡ pkg
 
 pub unpacked_as : (listed : IndexPackage) (version : Option (List ℕ)) → IsUnpackedAs listed.pkg (unpacked_with listed version)
 unpacked_as listed version = record {
@@ -82,26 +82,26 @@ unpacked_as listed version = record {
 }
 
 -- what is unpacked stands
-pub unpacked_stands : (pkg : Pkg) (found : Record) → IsUnpackedAs pkg found → Stands found
-unpacked_stands pkg found as_it = rw (as_it.state, as_it.sound) refl
+pub unpacked_stands : (pkg : Pkg) (entry : Record) → IsUnpackedAs pkg entry → Stands entry
+unpacked_stands pkg entry as_it = rw (as_it.state, as_it.sound) refl
 
 -- after an unpack each record is of the package unpacked, or one of another name that was there
-pub after_unpack_each : (listed : IndexPackage) (db : List Record) (found : Record) → Contains (after_unpack listed db) found
-    → IsUnpackedAs listed.pkg found ⊎ (Contains db found × (found.name ≢ listed.pkg.name))
-after_unpack_each listed db found = at (list_any (is_named listed.pkg.name) db) refl
+pub after_unpack_each : (listed : IndexPackage) (db : List Record) (entry : Record) → Contains (after_unpack listed db) entry
+    → IsUnpackedAs listed.pkg entry ⊎ (Contains db entry × (entry.name ≢ listed.pkg.name))
+after_unpack_each listed db entry = at (list_any (is_named listed.pkg.name) db) refl
   where
     at : (b : Bool) → list_any (is_named listed.pkg.name) db ≡ b
-        → Contains (cond b (changed (is_named listed.pkg.name) (unpacked_over listed) db) (db ++ unpacked_with listed None ∷ [])) found
-        → IsUnpackedAs listed.pkg found ⊎ (Contains db found × (found.name ≢ listed.pkg.name))
-    at true some within = elim (changed_each (is_named listed.pkg.name) (unpacked_over listed) db found within) [
+        → Contains (cond b (changed (is_named listed.pkg.name) (unpacked_over listed) db) (db ++ unpacked_with listed None ∷ [])) entry
+        → IsUnpackedAs listed.pkg entry ⊎ (Contains db entry × (entry.name ≢ listed.pkg.name))
+    at true some within = elim (changed_each (is_named listed.pkg.name) (unpacked_over listed) db entry within) [
       | inl made ↦ inl (subst (IsUnpackedAs listed.pkg) made.3 (unpacked_as listed _))
-      | inr left ↦ inr (left.0, named_not listed.pkg.name found left.1)
+      | inr left ↦ inr (left.0, named_not listed.pkg.name entry left.1)
     ]
-    at false none within = elim (Contains-append_cases db (unpacked_with listed None ∷ []) found within) [
-      | inl there ↦ inr (there, unnamed listed.pkg.name db none found there)
-      | inr last ↦ elim (Contains-cons (unpacked_with listed None) [] found last) [
+    at false none within = elim (Contains-append_cases db (unpacked_with listed None ∷ []) entry within) [
+      | inl there ↦ inr (there, unnamed listed.pkg.name db none entry there)
+      | inr last ↦ elim (Contains-cons (unpacked_with listed None) [] entry last) [
         | inl same ↦ inl (subst (IsUnpackedAs listed.pkg) same (unpacked_as listed None))
-        | inr none ↦ absurd (Contains-nil found none)
+        | inr none ↦ absurd (Contains-nil entry none)
       ]
     ]
 

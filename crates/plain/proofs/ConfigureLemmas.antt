@@ -25,7 +25,7 @@ use Rattle.plain.specs.Change.{IsPlainChange, IsReady, IsMetByStaying, IsToRemov
 use Rattle.plain.specs.PhaseLaws.{ConfigureLeaves, ConfiguresKeep, UnconfiguredPass}
 use Rattle.plain.specs.Underway.{IsUnderway, unconfigured_of}
 use Rattle.plain.proofs.ChangedLemmas.{changed_each, changed_keeps}
-use Rattle.plain.proofs.PeaceLemmas.{nothing_clashes}
+use Rattle.plain.proofs.ClashLemmas.{nothing_clashes}
 use Rattle.plain.proofs.UnderwayLemmas.{dec_HasMember, named, member_record, record_of_member, record_of_staying, free_record, underway_changed, underway_has_old_and_new}
 use Rattle.plain.proofs.UnpackLemmas.{stands_sound}
 use mathlib.Core.Logic.{inl, inr}
@@ -52,9 +52,9 @@ unconfigured_uninstalled TriggersPending is installed = absurd (let e : false �
 unconfigured_uninstalled Installed is installed = absurd (let e : false ≡ true = is in cc)
 
 -- what stands is installed or isn't configured
-pub stands_either : (found : Record) → Stands found → IsInstalled found ⊎ IsUnconfigured found
-stands_either found stands = at (is_unconfigured_state found.state) (is_installed_state found.state)
-    (both_true (is_unconfigured_state found.state || is_installed_state found.state) (is_sound_flag found.flag) stands).0
+pub stands_either : (entry : Record) → Stands entry → IsInstalled entry ⊎ IsUnconfigured entry
+stands_either entry stands = at (is_unconfigured_state entry.state) (is_installed_state entry.state)
+    (both_true (is_unconfigured_state entry.state || is_installed_state entry.state) (is_sound_flag entry.flag) stands).0
   where
     at : (x y : Bool) → IsTrue (x || y) → IsTrue y ⊎ IsTrue x
     at true y either = inr refl
@@ -73,26 +73,26 @@ allowed_configure u db names passes indivisible =
 
 -- a name that isn't configured is that of a record
 pub unconfigured_record : (db : List Record) (name : List ℕ) → Contains (unconfigured_of db) name
-    → (found : Record) × Contains db found × IsUnconfigured found × (found.name ≡ name)
+    → (entry : Record) × Contains db entry × IsUnconfigured entry × (entry.name ≡ name)
 unconfigured_record db name within =
     let from = Contains-map (λ (r : Record). r.name) (filter (λ r. is_unconfigured_state r.state) db) name within in
     let kept = Contains-filter (λ r. is_unconfigured_state r.state) db from.0 from.1 in
     (from.0, kept.0, kept.1, from.2)
 
-pub record_unconfigured : (db : List Record) (found : Record) → Contains db found → IsUnconfigured found
-    → Contains (unconfigured_of db) found.name
-record_unconfigured db found there is = Contains-map_intro (λ (r : Record). r.name) (filter (λ r. is_unconfigured_state r.state) db) found
-    (Contains-filter_intro (λ r. is_unconfigured_state r.state) db found there is)
+pub record_unconfigured : (db : List Record) (entry : Record) → Contains db entry → IsUnconfigured entry
+    → Contains (unconfigured_of db) entry.name
+record_unconfigured db entry there is = Contains-map_intro (λ (r : Record). r.name) (filter (λ r. is_unconfigured_state r.state) db) entry
+    (Contains-filter_intro (λ r. is_unconfigured_state r.state) db entry there is)
 
 -- where nothing is to be removed, a present record is of a member, and stands
 pub all_members : (u : Universe) (start : List Record) (members : List Pkg) (db : List Record) → IsUnderway u start members db
-    → ((name : List ℕ) → ¬ IsToRemove members db name) → (found : Record) → Contains db found → IsPresent found
-    → Stands found × Contains members (pkg_of found)
-all_members u start members db underway none found there present = at (dec_HasMember found.name members)
+    → ((name : List ℕ) → ¬ IsToRemove members db name) → (entry : Record) → Contains db entry → IsPresent entry
+    → Stands entry × Contains members (pkg_of entry)
+all_members u start members db underway none entry there present = at (dec_HasMember entry.name members)
   where
-    at : Dec (HasMember found.name members) → Stands found × Contains members (pkg_of found)
-    at (yes has) = member_record u start members db underway found there has
-    at (no alone) = absurd (none found.name (Any-intro (λ (r : Record). (r.name ≡ found.name) × IsPresent r) db found there (refl, present), alone))
+    at : Dec (HasMember entry.name members) → Stands entry × Contains members (pkg_of entry)
+    at (yes has) = member_record u start members db underway entry there has
+    at (no alone) = absurd (none entry.name (Any-intro (λ (r : Record). (r.name ≡ entry.name) × IsPresent r) db entry there (refl, present), alone))
 
 module _ (u : Universe) (start db : List Record) (selection : ℕ → Bool) (change : IsPlainChange u start selection)
     (underway : IsUnderway u start (selected u selection) db) (none : (name : List ℕ) → ¬ IsToRemove (selected u selection) db name) where
@@ -103,12 +103,12 @@ module _ (u : Universe) (start db : List Record) (selection : ℕ → Bool) (cha
   names = unconfigured_of db
 
   -- a record of one of the names isn't configured, and stands with a member's relations
-  is_unconfigured : (found : Record) → Contains db found → Contains names found.name → IsUnconfigured found
-  is_unconfigured found there within =
-      let from = unconfigured_record db found.name within in
-      subst (λ (r : Record). IsUnconfigured r) (one_record db underway.distinct found from.0 there from.1 from.3) from.2
+  is_unconfigured : (entry : Record) → Contains db entry → Contains names entry.name → IsUnconfigured entry
+  is_unconfigured entry there within =
+      let from = unconfigured_record db entry.name within in
+      subst (λ (r : Record). IsUnconfigured r) (one_record db underway.distinct entry from.0 there from.1 from.3) from.2
 
-  is_of_member : (found : Record) → Contains db found → IsPresent found → Stands found × Contains members (pkg_of found)
+  is_of_member : (entry : Record) → Contains db entry → IsPresent entry → Stands entry × Contains members (pkg_of entry)
   is_of_member = all_members u start members db underway none
 
   configurable : AreConfigurable db names
@@ -119,56 +119,56 @@ module _ (u : Universe) (start db : List Record) (selection : ℕ → Bool) (cha
       (from.3, (from.2, stands_sound from.0 (is_of_member from.0 from.1 (unconfigured_present from.0.state from.2)).0)))
 
   -- a member that isn't configured doesn't stay
-  stays_not : (found : Record) → Contains db found → IsUnconfigured found → Contains members (pkg_of found) → ¬ Stays start (pkg_of found)
-  stays_not found there is within stays =
-      let other = record_of_staying u start members db underway (pkg_of found) within stays in
-      unconfigured_uninstalled found.state is (subst (λ (r : Record). IsInstalled r)
-      (one_record db underway.distinct found other.0 there other.1 (named other.0 (pkg_of found) other.3)) other.2)
+  stays_not : (entry : Record) → Contains db entry → IsUnconfigured entry → Contains members (pkg_of entry) → ¬ Stays start (pkg_of entry)
+  stays_not entry there is within stays =
+      let other = record_of_staying u start members db underway (pkg_of entry) within stays in
+      unconfigured_uninstalled entry.state is (subst (λ (r : Record). IsInstalled r)
+      (one_record db underway.distinct entry other.0 there other.1 (named other.0 (pkg_of entry) other.3)) other.2)
 
   -- what a staying member meets, the installed packages meet
   met_by_installed : (name : List ℕ) (clause : List Atom) → IsMetByStaying start members name clause → MeetsClause (installed_of db) clause
   unfolding IsMetByStaying MeetsClause
   met_by_installed name clause met = Any-elim (λ (other : Pkg). (other.name ≢ name) × Stays start other × MatchesSome other clause) members
       (Any (λ member. MatchesSome member clause) (installed_of db)) (λ other there is.
-      let found = record_of_staying u start members db underway other there is.1 in
+      let entry = record_of_staying u start members db underway other there is.1 in
       Any-intro (λ member. MatchesSome member clause) (installed_of db) other
-      (subst (Contains (installed_of db)) found.3 (installed_contains db found.0 found.1 found.2)) is.2) met
+      (subst (Contains (installed_of db)) entry.3 (installed_contains db entry.0 entry.1 entry.2)) is.2) met
 
   pre_depends : ArePreDependsInstalled db names
   unfolding ArePreDependsInstalled MeetsClauses
   pre_depends = All-intro (λ (r : Record). Contains names r.name → All (MeetsClause (installed_of db)) r.relations.pre_depends) db
-      (λ found there within.
-      let is = is_unconfigured found there within in
-      let mine = (is_of_member found there (unconfigured_present found.state is)).1 in
-      All-weaker (IsMetByStaying start members found.name) (MeetsClause (installed_of db)) (met_by_installed found.name)
-      found.relations.pre_depends (All-contains (IsReady start members) members (pkg_of found) change.plain.ready mine
-      (stays_not found there is mine)))
+      (λ entry there within.
+      let is = is_unconfigured entry there within in
+      let mine = (is_of_member entry there (unconfigured_present entry.state is)).1 in
+      All-weaker (IsMetByStaying start members entry.name) (MeetsClause (installed_of db)) (met_by_installed entry.name)
+      entry.relations.pre_depends (All-contains (IsReady start members) members (pkg_of entry) change.plain.ready mine
+      (stays_not entry there is mine)))
 
   -- each member is installed or of one of the names
   available : (pkg : Pkg) → Contains members pkg → Contains (installed_of db ++ members_of names db) pkg
   available pkg within =
-      let found = record_of_member u start members db underway pkg within in
-      subst (Contains (installed_of db ++ members_of names db)) found.3 (at found.0 found.1 (stands_either found.0 found.2))
+      let entry = record_of_member u start members db underway pkg within in
+      subst (Contains (installed_of db ++ members_of names db)) entry.3 (at entry.0 entry.1 (stands_either entry.0 entry.2))
     where
-      at : (found : Record) → Contains db found → IsInstalled found ⊎ IsUnconfigured found
-          → Contains (installed_of db ++ members_of names db) (pkg_of found)
-      at found there (inl installed) = Contains-append_left (installed_of db) (members_of names db) (pkg_of found)
-          (installed_contains db found there installed)
-      at found there (inr is) =
-          let present : is_present_state found.state ≡ true = unconfigured_present found.state is in
-          let among : is_among names found ≡ true = is_among-contains names found (record_unconfigured db found there is) in
-          let passes : is_present_among names found ≡ true = rw (present, among) refl in
-          Contains-append_right (installed_of db) (members_of names db) (pkg_of found)
-          (Contains-map_intro pkg_of (filter (is_present_among names) db) found
-          (Contains-filter_intro (is_present_among names) db found there passes))
+      at : (entry : Record) → Contains db entry → IsInstalled entry ⊎ IsUnconfigured entry
+          → Contains (installed_of db ++ members_of names db) (pkg_of entry)
+      at entry there (inl installed) = Contains-append_left (installed_of db) (members_of names db) (pkg_of entry)
+          (installed_contains db entry there installed)
+      at entry there (inr is) =
+          let present : is_present_state entry.state ≡ true = unconfigured_present entry.state is in
+          let among : is_among names entry ≡ true = is_among-contains names entry (record_unconfigured db entry there is) in
+          let passes : is_present_among names entry ≡ true = rw (present, among) refl in
+          Contains-append_right (installed_of db) (members_of names db) (pkg_of entry)
+          (Contains-map_intro pkg_of (filter (is_present_among names) db) entry
+          (Contains-filter_intro (is_present_among names) db entry there passes))
 
   depends : AreDependsInstalled db names
   unfolding AreDependsInstalled IsAcceptable IsSound
   depends = All-intro (λ (r : Record). Contains names r.name → MeetsClauses (installed_of db ++ members_of names db) r.relations.depends) db
-      (λ found there within.
-      let mine = (is_of_member found there (unconfigured_present found.state (is_unconfigured found there within))).1 in
-      MeetsClauses-more members (installed_of db ++ members_of names db) available found.relations.depends
-      (All-contains (HasItsRelations members) members (pkg_of found) change.acceptable.sound mine).depends)
+      (λ entry there within.
+      let mine = (is_of_member entry there (unconfigured_present entry.state (is_unconfigured entry there within))).1 in
+      MeetsClauses-more members (installed_of db ++ members_of names db) available entry.relations.depends
+      (All-contains (HasItsRelations members) members (pkg_of entry) change.acceptable.sound mine).depends)
 
   all_pass : GroupPasses db names
   all_pass = record {
@@ -206,10 +206,10 @@ module _ (u : Universe) (start db : List Record) (members : List Pkg) (names : L
   -- what is present behind the configure was so before
   was_present : (name : List ℕ) → HasRecord IsPresent name (changed (is_among names) configured db) → HasRecord IsPresent name db
   was_present name has = Any-elim (λ (r : Record). (r.name ≡ name) × IsPresent r) (changed (is_among names) configured db)
-      (HasRecord IsPresent name db) (λ found there is. elim (changed_each (is_among names) configured db found there) [
+      (HasRecord IsPresent name db) (λ entry there is. elim (changed_each (is_among names) configured db entry there) [
         | inl made ↦ Any-intro (λ (r : Record). (r.name ≡ name) × IsPresent r) db made.0 made.1
             (ap (λ (r : Record). r.name) made.3 ∙ is.0, unconfigured_present made.0.state (was_configurable made.0 made.1 made.2).0)
-        | inr left ↦ Any-intro (λ (r : Record). (r.name ≡ name) × IsPresent r) db found left.0 is
+        | inr left ↦ Any-intro (λ (r : Record). (r.name ≡ name) × IsPresent r) db entry left.0 is
       ]) has
 
 pub configures_keep : ConfiguresKeep
@@ -222,7 +222,7 @@ configures_keep u start db members names underway none allowed = (
 
 -- one where the record isn't configured, and else nothing
 abbrev unconfigured_count : Record → ℕ
-unconfigured_count found = cond (is_unconfigured_state found.state) 1 0
+unconfigured_count entry = cond (is_unconfigured_state entry.state) 1 0
 
 -- the names of what isn't configured, counted
 count_first : (first : Record) (rest : List Record)
@@ -246,14 +246,14 @@ module _ (test : Record → Bool) (change : Record → Record) (done : (old : Re
       at false below = omega (arith, count_first first (changed test change rest), count_first first rest)
 
   -- and fewer, where one that wasn't configured is changed
-  fewer : (db : List Record) (found : Record) → Contains db found → test found ≡ true → unconfigured_count found ≡ 1
+  fewer : (db : List Record) (entry : Record) → Contains db entry → test entry ≡ true → unconfigured_count entry ≡ 1
       → length (unconfigured_of (changed test change db)) < length (unconfigured_of db)
-  fewer [] found there passes is = absurd (Contains-nil found there)
-  fewer (first ∷ rest) found there passes is = at (Contains-cons first rest found there) (test first) refl
-      (λ behind. fewer rest found behind passes is)
+  fewer [] entry there passes is = absurd (Contains-nil entry there)
+  fewer (first ∷ rest) entry there passes is = at (Contains-cons first rest entry there) (test first) refl
+      (λ behind. fewer rest entry behind passes is)
     where
-      at : (first ≡ found) ⊎ Contains rest found → (b : Bool) → test first ≡ b
-          → (Contains rest found → length (unconfigured_of (changed test change rest)) < length (unconfigured_of rest))
+      at : (first ≡ entry) ⊎ Contains rest entry → (b : Bool) → test first ≡ b
+          → (Contains rest entry → length (unconfigured_of (changed test change rest)) < length (unconfigured_of rest))
           → length (unconfigured_of (cond b (change first) first ∷ changed test change rest)) < length (unconfigured_of (first ∷ rest))
       at (inl same) true tested later =
           let one_ : unconfigured_count first ≡ 1 = ap unconfigured_count same ∙ is in
@@ -275,36 +275,36 @@ configure_leaves u db names distinct allowed = (λ name. (before name, behind na
     before : (name : List ℕ) → Contains (unconfigured_of (changed (is_among names) configured db)) name
         → Contains (unconfigured_of db) name × ¬ Contains names name
     before name within =
-        let found = unconfigured_record (changed (is_among names) configured db) name within in
-        elim (changed_each (is_among names) configured db found.0 found.1) [
-          | inl made ↦ absurd (let e : false ≡ true = subst (λ (r : Record). IsUnconfigured r) (sym made.3) found.2 in cc)
+        let entry = unconfigured_record (changed (is_among names) configured db) name within in
+        elim (changed_each (is_among names) configured db entry.0 entry.1) [
+          | inl made ↦ absurd (let e : false ≡ true = subst (λ (r : Record). IsUnconfigured r) (sym made.3) entry.2 in cc)
           | inr left ↦ (
-            subst (Contains (unconfigured_of db)) found.3 (record_unconfigured db found.0 left.0 found.2),
+            subst (Contains (unconfigured_of db)) entry.3 (record_unconfigured db entry.0 left.0 entry.2),
             λ among. absurd (let e : true ≡ false =
-                sym (is_among-contains names found.0 (subst (Contains names) (sym found.3) among)) ∙ left.1 in cc),
+                sym (is_among-contains names entry.0 (subst (Contains names) (sym entry.3) among)) ∙ left.1 in cc),
           )
         ]
 
     behind : (name : List ℕ) → Contains (unconfigured_of db) name × ¬ Contains names name
         → Contains (unconfigured_of (changed (is_among names) configured db)) name
     behind name left =
-        let found = unconfigured_record db name left.0 in
-        subst (Contains (unconfigured_of (changed (is_among names) configured db))) found.3
-        (record_unconfigured (changed (is_among names) configured db) found.0
-        (changed_keeps (is_among names) configured db found.0 found.1 (fails found.0 (is_among names found.0) refl
-        (λ among. left.1 (subst (Contains names) found.3 among)))) found.2)
+        let entry = unconfigured_record db name left.0 in
+        subst (Contains (unconfigured_of (changed (is_among names) configured db))) entry.3
+        (record_unconfigured (changed (is_among names) configured db) entry.0
+        (changed_keeps (is_among names) configured db entry.0 entry.1 (fails entry.0 (is_among names entry.0) refl
+        (λ among. left.1 (subst (Contains names) entry.3 among)))) entry.2)
       where
-        fails : (found : Record) (b : Bool) → is_among names found ≡ b → ¬ Contains names found.name → is_among names found ≡ false
-        fails found false is without = is
-        fails found true is without = absurd (without (contains-is_among names found is))
+        fails : (entry : Record) (b : Bool) → is_among names entry ≡ b → ¬ Contains names entry.name → is_among names entry ≡ false
+        fails entry false is without = is
+        fails entry true is without = absurd (without (contains-is_among names entry is))
 
     -- some record is of one of the names and isn't configured
     one_of : (name : List ℕ) → Contains names name
         → length (unconfigured_of (changed (is_among names) configured db)) < length (unconfigured_of db)
     one_of name within = Any-elim (λ (r : Record). (r.name ≡ name) × IsConfigurable r) db
         (length (unconfigured_of (changed (is_among names) configured db)) < length (unconfigured_of db))
-        (λ found there is. fewer (is_among names) configured (λ old. refl) db found there
-        (is_among-contains names found (subst (Contains names) (sym is.0) within)) (ap (λ (b : Bool). cond b 1 0) is.1.0))
+        (λ entry there is. fewer (is_among names) configured (λ old. refl) db entry there
+        (is_among-contains names entry (subst (Contains names) (sym is.0) within)) (ap (λ (b : Bool). cond b 1 0) is.1.0))
         (group_record u db names allowed name within)
 
     count : 0 < length names → length (unconfigured_of (changed (is_among names) configured db)) < length (unconfigured_of db)

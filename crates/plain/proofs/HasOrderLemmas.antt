@@ -32,8 +32,8 @@ use mathlib.Core.Logic.{inl, inr}
 least_name : (P : Name → Type 0) → ((name : Name) → Dec (P name)) → (names : List Name) → ((name : Name) → P name → Contains names name)
     → (name : Name) → P name → (least : Name) × IsLeastName P least
 least_name P each names known name has =
-    let found = least_of P each names (Any-intro P names name (known name has) has) in
-    (found.0, record { has = found.1; least = λ other holds. found.2 other (known other holds) holds })
+    let lowest = least_of P each names (Any-intro P names name (known name has) has) in
+    (lowest.0, record { has = lowest.1; least = λ other holds. lowest.2 other (known other holds) holds })
 
 -- the names to be purged, in their order
 purges_among : (u : Universe) (db : List Record) → (names : List Name) × IsAscending names
@@ -52,8 +52,8 @@ purges_among u (first ∷ rest) = at (dec_and (dec_IsPurgeGoal u first.name) (de
         → Any (λ (r : Record). (r.name ≡ name) × (IsPurgeGoal u r.name × IsRemoved r)) (first ∷ rest)
     behind name some = Any-elim (λ (r : Record). (r.name ≡ name) × (IsPurgeGoal u r.name × IsRemoved r)) rest
         (Any (λ (r : Record). (r.name ≡ name) × (IsPurgeGoal u r.name × IsRemoved r)) (first ∷ rest))
-        (λ found within is. Any-intro (λ (r : Record). (r.name ≡ name) × (IsPurgeGoal u r.name × IsRemoved r)) (first ∷ rest) found
-        (Contains-rest first rest found within) is) some
+        (λ entry within is. Any-intro (λ (r : Record). (r.name ≡ name) × (IsPurgeGoal u r.name × IsRemoved r)) (first ∷ rest) entry
+        (Contains-rest first rest entry within) is) some
 
     split : (name : Name) → Any (λ (r : Record). (r.name ≡ name) × (IsPurgeGoal u r.name × IsRemoved r)) (first ∷ rest)
         → ((first.name ≡ name) × (IsPurgeGoal u first.name × IsRemoved first))
@@ -61,9 +61,9 @@ purges_among u (first ∷ rest) = at (dec_and (dec_IsPurgeGoal u first.name) (de
     split name some = Any-elim (λ (r : Record). (r.name ≡ name) × (IsPurgeGoal u r.name × IsRemoved r)) (first ∷ rest)
         (((first.name ≡ name) × (IsPurgeGoal u first.name × IsRemoved first))
         ⊎ Any (λ (r : Record). (r.name ≡ name) × (IsPurgeGoal u r.name × IsRemoved r)) rest)
-        (λ found within is. elim (Contains-cons first rest found within) [
+        (λ entry within is. elim (Contains-cons first rest entry within) [
           | inl same ↦ inl (subst (λ (r : Record). (r.name ≡ name) × (IsPurgeGoal u r.name × IsRemoved r)) (sym same) is)
-          | inr further ↦ inr (Any-intro (λ (r : Record). (r.name ≡ name) × (IsPurgeGoal u r.name × IsRemoved r)) rest found further is)
+          | inr further ↦ inr (Any-intro (λ (r : Record). (r.name ≡ name) × (IsPurgeGoal u r.name × IsRemoved r)) rest entry further is)
         ]) some
 
     at : Dec (IsPurgeGoal u first.name × IsRemoved first)
@@ -94,15 +94,15 @@ purges_among u (first ∷ rest) = at (dec_and (dec_IsPurgeGoal u first.name) (de
 
 purges_there : (u : Universe) (db : List Record) → (names : List Name) × ArePurges u db names
 purges_there u db =
-    let found = purges_among u db in (
-      found.0,
+    let purges = purges_among u db in (
+      purges.0,
       record {
-        by_name = found.1;
+        by_name = purges.1;
         each = λ name. (
           (λ within. Any-elim (λ (r : Record). (r.name ≡ name) × (IsPurgeGoal u r.name × IsRemoved r)) db (IsToPurge u db name)
               (λ r there is. (subst (IsPurgeGoal u) is.0 is.1.0, Any-intro (λ (r : Record). (r.name ≡ name) × IsRemoved r) db r there (is.0, is.1.1)))
-              ((found.2 name).0 within)),
-          (λ purge. (found.2 name).1 (Any-elim (λ (r : Record). (r.name ≡ name) × IsRemoved r) db
+              ((purges.2 name).0 within)),
+          (λ purge. (purges.2 name).1 (Any-elim (λ (r : Record). (r.name ≡ name) × IsRemoved r) db
               (Any (λ (r : Record). (r.name ≡ name) × (IsPurgeGoal u r.name × IsRemoved r)) db)
               (λ r there is. Any-intro (λ (r : Record). (r.name ≡ name) × (IsPurgeGoal u r.name × IsRemoved r)) db r there
               (is.0, (subst (IsPurgeGoal u) (sym is.0) purge.0, is.1))) purge.1)),

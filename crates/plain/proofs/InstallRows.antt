@@ -20,7 +20,7 @@ use Rattle.rules.proofs.DecidedPackages.{dec_MeetsRestriction, dec_Meets, dec_Me
 use Rattle.rules.proofs.DecidedSteps.{dec_HasRecord, dec_ForOthers, dec_SomeOther, dec_ForMembers, dec_FitsThenAndNow, dec_MatchOption, dec_FitsFromBefore, dec_SatisfiesAtom, dec_IsSatisfied, dec_HasPreDepends, dec_IsCompatible, dec_HasNoConflict, dec_BreaksNone, dec_OnListed, dec_IsNotHeld, dec_StandsAs, dec_AreConfigurable, dec_ArePreDependsInstalled, dec_AreDependsInstalled, dec_IsUnbroken, dec_AreUnbroken, dec_IsMetWithout, dec_NeedsNot, dec_IsNeededByNone, dec_IsNotNeeded}
 use Rattle.rules.proofs.GroupLemmas.{dec_named, dec_MemberPasses, greatest_upto, greatest_part, dec_IsIndivisible}
 use Rattle.rules.proofs.LegalLemmas.{dec_UnpackAsks, dec_ConfigureAsks, dec_RemoveAsks, dec_DeconfigureAsks, dec_PurgeAsks, dec_Asks, kept_or_first, allowed_or_failing}
-use Rattle.plain.proofs.PlainDecided.{dec_Stays, dec_IsMetByStaying, dec_IsReady, dec_AreAtPeace, dec_purges, dec_IsPurgeGoal, dec_unpacked_unheld, dec_each_name, dec_present, dec_IsPlain, dec_Allowed, dec_Less, dec_IsToRemove, dec_MayGo, dec_IsStillInstalled, dec_IsLeastName, dec_none, dec_IsNextRemoval, dec_AreRemovals}
+use Rattle.plain.proofs.PlainDecided.{dec_Stays, dec_IsMetByStaying, dec_IsReady, dec_HaveNoClash, dec_purges, dec_IsPurgeGoal, dec_unpacked_unheld, dec_each_name, dec_present, dec_IsPlain, dec_Allowed, dec_Less, dec_IsToRemove, dec_MayGo, dec_IsStillInstalled, dec_IsLeastName, dec_none, dec_IsNextRemoval, dec_AreRemovals}
 use Rattle.plain.proofs.UnderwayLemmas.{dec_HasMember}
 use Rattle.rules.proofs.GroupLemmas.{GroupPasses-from_each, none_of}
 use Rattle.rules.proofs.Rows.{so, not_so, record_of, indexed, universe_of}
@@ -59,7 +59,7 @@ abbrev u : Universe
 u = universe_of [] (indexed a_1 ∷ indexed b_1 ∷ []) (goal.Install (codes "a") None ∷ [])
 
 pub is_plain : IsPlain u [] members
-unfolding version_cmp dec_Decides dec_IsTrue dec_IsFalse dec_and dec_and3 dec_or dec_not dec_implies dec_like dec_All dec_Any dec_text dec_Equal dec_Contains all_or_some dec_MeetsRestriction dec_Meets dec_MeetsAsProvided dec_FitsByName dec_FitsProvided dec_FitsByProvides dec_Matches dec_MatchesSome dec_ConflictsWith dec_BreaksOther dec_MeetsClause dec_MeetsClauses dec_SameVersion dec_HasRecord dec_ForOthers dec_SomeOther dec_ForMembers dec_FitsThenAndNow dec_MatchOption dec_FitsFromBefore dec_SatisfiesAtom dec_IsSatisfied dec_HasPreDepends dec_IsCompatible dec_HasNoConflict dec_BreaksNone dec_OnListed dec_IsNotHeld dec_StandsAs dec_AreConfigurable dec_ArePreDependsInstalled dec_AreDependsInstalled dec_IsUnbroken dec_AreUnbroken dec_IsMetWithout dec_NeedsNot dec_IsNeededByNone dec_IsNotNeeded dec_named dec_MemberPasses greatest_upto greatest_part dec_IsIndivisible dec_UnpackAsks dec_ConfigureAsks dec_RemoveAsks dec_DeconfigureAsks dec_PurgeAsks dec_Asks kept_or_first allowed_or_failing dec_HasMember dec_Stays dec_IsMetByStaying dec_IsReady dec_AreAtPeace dec_purges dec_IsPurgeGoal dec_unpacked_unheld dec_each_name dec_present dec_IsPlain dec_Allowed dec_Less dec_IsToRemove dec_MayGo dec_IsStillInstalled dec_IsLeastName dec_none dec_IsNextRemoval dec_AreRemovals
+unfolding version_cmp dec_Decides dec_IsTrue dec_IsFalse dec_and dec_and3 dec_or dec_not dec_implies dec_like dec_All dec_Any dec_text dec_Equal dec_Contains all_or_some dec_MeetsRestriction dec_Meets dec_MeetsAsProvided dec_FitsByName dec_FitsProvided dec_FitsByProvides dec_Matches dec_MatchesSome dec_ConflictsWith dec_BreaksOther dec_MeetsClause dec_MeetsClauses dec_SameVersion dec_HasRecord dec_ForOthers dec_SomeOther dec_ForMembers dec_FitsThenAndNow dec_MatchOption dec_FitsFromBefore dec_SatisfiesAtom dec_IsSatisfied dec_HasPreDepends dec_IsCompatible dec_HasNoConflict dec_BreaksNone dec_OnListed dec_IsNotHeld dec_StandsAs dec_AreConfigurable dec_ArePreDependsInstalled dec_AreDependsInstalled dec_IsUnbroken dec_AreUnbroken dec_IsMetWithout dec_NeedsNot dec_IsNeededByNone dec_IsNotNeeded dec_named dec_MemberPasses greatest_upto greatest_part dec_IsIndivisible dec_UnpackAsks dec_ConfigureAsks dec_RemoveAsks dec_DeconfigureAsks dec_PurgeAsks dec_Asks kept_or_first allowed_or_failing dec_HasMember dec_Stays dec_IsMetByStaying dec_IsReady dec_HaveNoClash dec_purges dec_IsPurgeGoal dec_unpacked_unheld dec_each_name dec_present dec_IsPlain dec_Allowed dec_Less dec_IsToRemove dec_MayGo dec_IsStillInstalled dec_IsLeastName dec_none dec_IsNextRemoval dec_AreRemovals
 is_plain = so (dec_IsPlain u [] members) refl
 
 -- behind the unpacks, and behind the configure
@@ -71,7 +71,7 @@ a_b = codes "a" ∷ codes "b" ∷ []
 
 -- both pass together, and neither by itself
 both_pass : GroupPasses unpacked a_b
-unfolding version_cmp dec_Decides dec_IsTrue dec_IsFalse dec_and dec_and3 dec_or dec_not dec_implies dec_like dec_All dec_Any dec_text dec_Equal dec_Contains all_or_some dec_MeetsRestriction dec_Meets dec_MeetsAsProvided dec_FitsByName dec_FitsProvided dec_FitsByProvides dec_Matches dec_MatchesSome dec_ConflictsWith dec_BreaksOther dec_MeetsClause dec_MeetsClauses dec_SameVersion dec_HasRecord dec_ForOthers dec_SomeOther dec_ForMembers dec_FitsThenAndNow dec_MatchOption dec_FitsFromBefore dec_SatisfiesAtom dec_IsSatisfied dec_HasPreDepends dec_IsCompatible dec_HasNoConflict dec_BreaksNone dec_OnListed dec_IsNotHeld dec_StandsAs dec_AreConfigurable dec_ArePreDependsInstalled dec_AreDependsInstalled dec_IsUnbroken dec_AreUnbroken dec_IsMetWithout dec_NeedsNot dec_IsNeededByNone dec_IsNotNeeded dec_named dec_MemberPasses greatest_upto greatest_part dec_IsIndivisible dec_UnpackAsks dec_ConfigureAsks dec_RemoveAsks dec_DeconfigureAsks dec_PurgeAsks dec_Asks kept_or_first allowed_or_failing dec_HasMember dec_Stays dec_IsMetByStaying dec_IsReady dec_AreAtPeace dec_purges dec_IsPurgeGoal dec_unpacked_unheld dec_each_name dec_present dec_IsPlain dec_Allowed dec_Less dec_IsToRemove dec_MayGo dec_IsStillInstalled dec_IsLeastName dec_none dec_IsNextRemoval dec_AreRemovals
+unfolding version_cmp dec_Decides dec_IsTrue dec_IsFalse dec_and dec_and3 dec_or dec_not dec_implies dec_like dec_All dec_Any dec_text dec_Equal dec_Contains all_or_some dec_MeetsRestriction dec_Meets dec_MeetsAsProvided dec_FitsByName dec_FitsProvided dec_FitsByProvides dec_Matches dec_MatchesSome dec_ConflictsWith dec_BreaksOther dec_MeetsClause dec_MeetsClauses dec_SameVersion dec_HasRecord dec_ForOthers dec_SomeOther dec_ForMembers dec_FitsThenAndNow dec_MatchOption dec_FitsFromBefore dec_SatisfiesAtom dec_IsSatisfied dec_HasPreDepends dec_IsCompatible dec_HasNoConflict dec_BreaksNone dec_OnListed dec_IsNotHeld dec_StandsAs dec_AreConfigurable dec_ArePreDependsInstalled dec_AreDependsInstalled dec_IsUnbroken dec_AreUnbroken dec_IsMetWithout dec_NeedsNot dec_IsNeededByNone dec_IsNotNeeded dec_named dec_MemberPasses greatest_upto greatest_part dec_IsIndivisible dec_UnpackAsks dec_ConfigureAsks dec_RemoveAsks dec_DeconfigureAsks dec_PurgeAsks dec_Asks kept_or_first allowed_or_failing dec_HasMember dec_Stays dec_IsMetByStaying dec_IsReady dec_HaveNoClash dec_purges dec_IsPurgeGoal dec_unpacked_unheld dec_each_name dec_present dec_IsPlain dec_Allowed dec_Less dec_IsToRemove dec_MayGo dec_IsStillInstalled dec_IsLeastName dec_none dec_IsNextRemoval dec_AreRemovals
 both_pass = record {
   configurable = so (dec_AreConfigurable unpacked a_b) refl;
   pre_depends = so (dec_ArePreDependsInstalled unpacked a_b) refl;
@@ -80,11 +80,11 @@ both_pass = record {
 }
 
 a_fails : ¬ AreDependsInstalled unpacked (codes "a" ∷ [])
-unfolding version_cmp dec_Decides dec_IsTrue dec_IsFalse dec_and dec_and3 dec_or dec_not dec_implies dec_like dec_All dec_Any dec_text dec_Equal dec_Contains all_or_some dec_MeetsRestriction dec_Meets dec_MeetsAsProvided dec_FitsByName dec_FitsProvided dec_FitsByProvides dec_Matches dec_MatchesSome dec_ConflictsWith dec_BreaksOther dec_MeetsClause dec_MeetsClauses dec_SameVersion dec_HasRecord dec_ForOthers dec_SomeOther dec_ForMembers dec_FitsThenAndNow dec_MatchOption dec_FitsFromBefore dec_SatisfiesAtom dec_IsSatisfied dec_HasPreDepends dec_IsCompatible dec_HasNoConflict dec_BreaksNone dec_OnListed dec_IsNotHeld dec_StandsAs dec_AreConfigurable dec_ArePreDependsInstalled dec_AreDependsInstalled dec_IsUnbroken dec_AreUnbroken dec_IsMetWithout dec_NeedsNot dec_IsNeededByNone dec_IsNotNeeded dec_named dec_MemberPasses greatest_upto greatest_part dec_IsIndivisible dec_UnpackAsks dec_ConfigureAsks dec_RemoveAsks dec_DeconfigureAsks dec_PurgeAsks dec_Asks kept_or_first allowed_or_failing dec_HasMember dec_Stays dec_IsMetByStaying dec_IsReady dec_AreAtPeace dec_purges dec_IsPurgeGoal dec_unpacked_unheld dec_each_name dec_present dec_IsPlain dec_Allowed dec_Less dec_IsToRemove dec_MayGo dec_IsStillInstalled dec_IsLeastName dec_none dec_IsNextRemoval dec_AreRemovals
+unfolding version_cmp dec_Decides dec_IsTrue dec_IsFalse dec_and dec_and3 dec_or dec_not dec_implies dec_like dec_All dec_Any dec_text dec_Equal dec_Contains all_or_some dec_MeetsRestriction dec_Meets dec_MeetsAsProvided dec_FitsByName dec_FitsProvided dec_FitsByProvides dec_Matches dec_MatchesSome dec_ConflictsWith dec_BreaksOther dec_MeetsClause dec_MeetsClauses dec_SameVersion dec_HasRecord dec_ForOthers dec_SomeOther dec_ForMembers dec_FitsThenAndNow dec_MatchOption dec_FitsFromBefore dec_SatisfiesAtom dec_IsSatisfied dec_HasPreDepends dec_IsCompatible dec_HasNoConflict dec_BreaksNone dec_OnListed dec_IsNotHeld dec_StandsAs dec_AreConfigurable dec_ArePreDependsInstalled dec_AreDependsInstalled dec_IsUnbroken dec_AreUnbroken dec_IsMetWithout dec_NeedsNot dec_IsNeededByNone dec_IsNotNeeded dec_named dec_MemberPasses greatest_upto greatest_part dec_IsIndivisible dec_UnpackAsks dec_ConfigureAsks dec_RemoveAsks dec_DeconfigureAsks dec_PurgeAsks dec_Asks kept_or_first allowed_or_failing dec_HasMember dec_Stays dec_IsMetByStaying dec_IsReady dec_HaveNoClash dec_purges dec_IsPurgeGoal dec_unpacked_unheld dec_each_name dec_present dec_IsPlain dec_Allowed dec_Less dec_IsToRemove dec_MayGo dec_IsStillInstalled dec_IsLeastName dec_none dec_IsNextRemoval dec_AreRemovals
 a_fails = not_so (dec_AreDependsInstalled unpacked (codes "a" ∷ [])) refl
 
 b_fails : ¬ AreDependsInstalled unpacked (codes "b" ∷ [])
-unfolding version_cmp dec_Decides dec_IsTrue dec_IsFalse dec_and dec_and3 dec_or dec_not dec_implies dec_like dec_All dec_Any dec_text dec_Equal dec_Contains all_or_some dec_MeetsRestriction dec_Meets dec_MeetsAsProvided dec_FitsByName dec_FitsProvided dec_FitsByProvides dec_Matches dec_MatchesSome dec_ConflictsWith dec_BreaksOther dec_MeetsClause dec_MeetsClauses dec_SameVersion dec_HasRecord dec_ForOthers dec_SomeOther dec_ForMembers dec_FitsThenAndNow dec_MatchOption dec_FitsFromBefore dec_SatisfiesAtom dec_IsSatisfied dec_HasPreDepends dec_IsCompatible dec_HasNoConflict dec_BreaksNone dec_OnListed dec_IsNotHeld dec_StandsAs dec_AreConfigurable dec_ArePreDependsInstalled dec_AreDependsInstalled dec_IsUnbroken dec_AreUnbroken dec_IsMetWithout dec_NeedsNot dec_IsNeededByNone dec_IsNotNeeded dec_named dec_MemberPasses greatest_upto greatest_part dec_IsIndivisible dec_UnpackAsks dec_ConfigureAsks dec_RemoveAsks dec_DeconfigureAsks dec_PurgeAsks dec_Asks kept_or_first allowed_or_failing dec_HasMember dec_Stays dec_IsMetByStaying dec_IsReady dec_AreAtPeace dec_purges dec_IsPurgeGoal dec_unpacked_unheld dec_each_name dec_present dec_IsPlain dec_Allowed dec_Less dec_IsToRemove dec_MayGo dec_IsStillInstalled dec_IsLeastName dec_none dec_IsNextRemoval dec_AreRemovals
+unfolding version_cmp dec_Decides dec_IsTrue dec_IsFalse dec_and dec_and3 dec_or dec_not dec_implies dec_like dec_All dec_Any dec_text dec_Equal dec_Contains all_or_some dec_MeetsRestriction dec_Meets dec_MeetsAsProvided dec_FitsByName dec_FitsProvided dec_FitsByProvides dec_Matches dec_MatchesSome dec_ConflictsWith dec_BreaksOther dec_MeetsClause dec_MeetsClauses dec_SameVersion dec_HasRecord dec_ForOthers dec_SomeOther dec_ForMembers dec_FitsThenAndNow dec_MatchOption dec_FitsFromBefore dec_SatisfiesAtom dec_IsSatisfied dec_HasPreDepends dec_IsCompatible dec_HasNoConflict dec_BreaksNone dec_OnListed dec_IsNotHeld dec_StandsAs dec_AreConfigurable dec_ArePreDependsInstalled dec_AreDependsInstalled dec_IsUnbroken dec_AreUnbroken dec_IsMetWithout dec_NeedsNot dec_IsNeededByNone dec_IsNotNeeded dec_named dec_MemberPasses greatest_upto greatest_part dec_IsIndivisible dec_UnpackAsks dec_ConfigureAsks dec_RemoveAsks dec_DeconfigureAsks dec_PurgeAsks dec_Asks kept_or_first allowed_or_failing dec_HasMember dec_Stays dec_IsMetByStaying dec_IsReady dec_HaveNoClash dec_purges dec_IsPurgeGoal dec_unpacked_unheld dec_each_name dec_present dec_IsPlain dec_Allowed dec_Less dec_IsToRemove dec_MayGo dec_IsStillInstalled dec_IsLeastName dec_none dec_IsNextRemoval dec_AreRemovals
 b_fails = not_so (dec_AreDependsInstalled unpacked (codes "b" ∷ [])) refl
 
 -- a isn't b
@@ -101,8 +101,8 @@ nothing_passes : (name : List ℕ) → ¬ AreDependsInstalled unpacked (name ∷
 nothing_passes name fails = record {
   within = all_of_none (Contains (name ∷ []));
   passes = GroupPasses-from_each unpacked [] (λ other none. absurd (Contains-nil other none));
-  greatest = λ other inside passes. All-intro (Contains []) other (λ found within.
-      let same : name ≡ found = only name found (All-contains (Contains (name ∷ [])) other found inside within) in
+  greatest = λ other inside passes. All-intro (Contains []) other (λ some_name within.
+      let same : name ≡ some_name = only name some_name (All-contains (Contains (name ∷ [])) other some_name inside within) in
       absurd (fails (same_names_pass unpacked other (name ∷ [])
       (λ n there. All-contains (Contains (name ∷ [])) other n inside there)
       (λ n there. subst (Contains other) (only name n there) (subst (Contains other) (sym same) within)) passes).depends));
@@ -175,7 +175,7 @@ purges_are = record {
         [ inl same ↦ absurd (cc) | inr none ↦ Contains-nil (goal.Purge name) none ]
 
 nothing_to_remove : (name : List ℕ) → ¬ IsToRemove members unpacked name
-unfolding version_cmp dec_Decides dec_IsTrue dec_IsFalse dec_and dec_and3 dec_or dec_not dec_implies dec_like dec_All dec_Any dec_text dec_Equal dec_Contains all_or_some dec_MeetsRestriction dec_Meets dec_MeetsAsProvided dec_FitsByName dec_FitsProvided dec_FitsByProvides dec_Matches dec_MatchesSome dec_ConflictsWith dec_BreaksOther dec_MeetsClause dec_MeetsClauses dec_SameVersion dec_HasRecord dec_ForOthers dec_SomeOther dec_ForMembers dec_FitsThenAndNow dec_MatchOption dec_FitsFromBefore dec_SatisfiesAtom dec_IsSatisfied dec_HasPreDepends dec_IsCompatible dec_HasNoConflict dec_BreaksNone dec_OnListed dec_IsNotHeld dec_StandsAs dec_AreConfigurable dec_ArePreDependsInstalled dec_AreDependsInstalled dec_IsUnbroken dec_AreUnbroken dec_IsMetWithout dec_NeedsNot dec_IsNeededByNone dec_IsNotNeeded dec_named dec_MemberPasses greatest_upto greatest_part dec_IsIndivisible dec_UnpackAsks dec_ConfigureAsks dec_RemoveAsks dec_DeconfigureAsks dec_PurgeAsks dec_Asks kept_or_first allowed_or_failing dec_HasMember dec_Stays dec_IsMetByStaying dec_IsReady dec_AreAtPeace dec_purges dec_IsPurgeGoal dec_unpacked_unheld dec_each_name dec_present dec_IsPlain dec_Allowed dec_Less dec_IsToRemove dec_MayGo dec_IsStillInstalled dec_IsLeastName dec_none dec_IsNextRemoval dec_AreRemovals
+unfolding version_cmp dec_Decides dec_IsTrue dec_IsFalse dec_and dec_and3 dec_or dec_not dec_implies dec_like dec_All dec_Any dec_text dec_Equal dec_Contains all_or_some dec_MeetsRestriction dec_Meets dec_MeetsAsProvided dec_FitsByName dec_FitsProvided dec_FitsByProvides dec_Matches dec_MatchesSome dec_ConflictsWith dec_BreaksOther dec_MeetsClause dec_MeetsClauses dec_SameVersion dec_HasRecord dec_ForOthers dec_SomeOther dec_ForMembers dec_FitsThenAndNow dec_MatchOption dec_FitsFromBefore dec_SatisfiesAtom dec_IsSatisfied dec_HasPreDepends dec_IsCompatible dec_HasNoConflict dec_BreaksNone dec_OnListed dec_IsNotHeld dec_StandsAs dec_AreConfigurable dec_ArePreDependsInstalled dec_AreDependsInstalled dec_IsUnbroken dec_AreUnbroken dec_IsMetWithout dec_NeedsNot dec_IsNeededByNone dec_IsNotNeeded dec_named dec_MemberPasses greatest_upto greatest_part dec_IsIndivisible dec_UnpackAsks dec_ConfigureAsks dec_RemoveAsks dec_DeconfigureAsks dec_PurgeAsks dec_Asks kept_or_first allowed_or_failing dec_HasMember dec_Stays dec_IsMetByStaying dec_IsReady dec_HaveNoClash dec_purges dec_IsPurgeGoal dec_unpacked_unheld dec_each_name dec_present dec_IsPlain dec_Allowed dec_Less dec_IsToRemove dec_MayGo dec_IsStillInstalled dec_IsLeastName dec_none dec_IsNextRemoval dec_AreRemovals
 nothing_to_remove = so (dec_AreRemovals u members unpacked []) refl
 
 -- the fixed order: `unpack a 1`, `unpack b 1`, `configure a b`
@@ -221,7 +221,7 @@ both_pairs : (P : Pair → Type 0) → P (indexed a_1) → P (indexed b_1) → A
 both_pairs P a b = All-cons P (indexed a_1) (indexed b_1 ∷ []) a (All-cons P (indexed b_1) [] b (All-nil P))
 
 content_a : HasItsRelations members a_1
-unfolding version_cmp dec_Decides dec_IsTrue dec_IsFalse dec_and dec_and3 dec_or dec_not dec_implies dec_like dec_All dec_Any dec_text dec_Equal dec_Contains all_or_some dec_MeetsRestriction dec_Meets dec_MeetsAsProvided dec_FitsByName dec_FitsProvided dec_FitsByProvides dec_Matches dec_MatchesSome dec_ConflictsWith dec_BreaksOther dec_MeetsClause dec_MeetsClauses dec_SameVersion dec_HasRecord dec_ForOthers dec_SomeOther dec_ForMembers dec_FitsThenAndNow dec_MatchOption dec_FitsFromBefore dec_SatisfiesAtom dec_IsSatisfied dec_HasPreDepends dec_IsCompatible dec_HasNoConflict dec_BreaksNone dec_OnListed dec_IsNotHeld dec_StandsAs dec_AreConfigurable dec_ArePreDependsInstalled dec_AreDependsInstalled dec_IsUnbroken dec_AreUnbroken dec_IsMetWithout dec_NeedsNot dec_IsNeededByNone dec_IsNotNeeded dec_named dec_MemberPasses greatest_upto greatest_part dec_IsIndivisible dec_UnpackAsks dec_ConfigureAsks dec_RemoveAsks dec_DeconfigureAsks dec_PurgeAsks dec_Asks kept_or_first allowed_or_failing dec_HasMember dec_Stays dec_IsMetByStaying dec_IsReady dec_AreAtPeace dec_purges dec_IsPurgeGoal dec_unpacked_unheld dec_each_name dec_present dec_IsPlain dec_Allowed dec_Less dec_IsToRemove dec_MayGo dec_IsStillInstalled dec_IsLeastName dec_none dec_IsNextRemoval dec_AreRemovals dec_MatchedByNoOther
+unfolding version_cmp dec_Decides dec_IsTrue dec_IsFalse dec_and dec_and3 dec_or dec_not dec_implies dec_like dec_All dec_Any dec_text dec_Equal dec_Contains all_or_some dec_MeetsRestriction dec_Meets dec_MeetsAsProvided dec_FitsByName dec_FitsProvided dec_FitsByProvides dec_Matches dec_MatchesSome dec_ConflictsWith dec_BreaksOther dec_MeetsClause dec_MeetsClauses dec_SameVersion dec_HasRecord dec_ForOthers dec_SomeOther dec_ForMembers dec_FitsThenAndNow dec_MatchOption dec_FitsFromBefore dec_SatisfiesAtom dec_IsSatisfied dec_HasPreDepends dec_IsCompatible dec_HasNoConflict dec_BreaksNone dec_OnListed dec_IsNotHeld dec_StandsAs dec_AreConfigurable dec_ArePreDependsInstalled dec_AreDependsInstalled dec_IsUnbroken dec_AreUnbroken dec_IsMetWithout dec_NeedsNot dec_IsNeededByNone dec_IsNotNeeded dec_named dec_MemberPasses greatest_upto greatest_part dec_IsIndivisible dec_UnpackAsks dec_ConfigureAsks dec_RemoveAsks dec_DeconfigureAsks dec_PurgeAsks dec_Asks kept_or_first allowed_or_failing dec_HasMember dec_Stays dec_IsMetByStaying dec_IsReady dec_HaveNoClash dec_purges dec_IsPurgeGoal dec_unpacked_unheld dec_each_name dec_present dec_IsPlain dec_Allowed dec_Less dec_IsToRemove dec_MayGo dec_IsStillInstalled dec_IsLeastName dec_none dec_IsNextRemoval dec_AreRemovals dec_MatchedByNoOther
 content_a = record {
   pre_depends = so (dec_MeetsClauses members a_1.relations.pre_depends) refl;
   depends = so (dec_MeetsClauses members a_1.relations.depends) refl;
@@ -230,7 +230,7 @@ content_a = record {
 }
 
 content_b : HasItsRelations members b_1
-unfolding version_cmp dec_Decides dec_IsTrue dec_IsFalse dec_and dec_and3 dec_or dec_not dec_implies dec_like dec_All dec_Any dec_text dec_Equal dec_Contains all_or_some dec_MeetsRestriction dec_Meets dec_MeetsAsProvided dec_FitsByName dec_FitsProvided dec_FitsByProvides dec_Matches dec_MatchesSome dec_ConflictsWith dec_BreaksOther dec_MeetsClause dec_MeetsClauses dec_SameVersion dec_HasRecord dec_ForOthers dec_SomeOther dec_ForMembers dec_FitsThenAndNow dec_MatchOption dec_FitsFromBefore dec_SatisfiesAtom dec_IsSatisfied dec_HasPreDepends dec_IsCompatible dec_HasNoConflict dec_BreaksNone dec_OnListed dec_IsNotHeld dec_StandsAs dec_AreConfigurable dec_ArePreDependsInstalled dec_AreDependsInstalled dec_IsUnbroken dec_AreUnbroken dec_IsMetWithout dec_NeedsNot dec_IsNeededByNone dec_IsNotNeeded dec_named dec_MemberPasses greatest_upto greatest_part dec_IsIndivisible dec_UnpackAsks dec_ConfigureAsks dec_RemoveAsks dec_DeconfigureAsks dec_PurgeAsks dec_Asks kept_or_first allowed_or_failing dec_HasMember dec_Stays dec_IsMetByStaying dec_IsReady dec_AreAtPeace dec_purges dec_IsPurgeGoal dec_unpacked_unheld dec_each_name dec_present dec_IsPlain dec_Allowed dec_Less dec_IsToRemove dec_MayGo dec_IsStillInstalled dec_IsLeastName dec_none dec_IsNextRemoval dec_AreRemovals dec_MatchedByNoOther
+unfolding version_cmp dec_Decides dec_IsTrue dec_IsFalse dec_and dec_and3 dec_or dec_not dec_implies dec_like dec_All dec_Any dec_text dec_Equal dec_Contains all_or_some dec_MeetsRestriction dec_Meets dec_MeetsAsProvided dec_FitsByName dec_FitsProvided dec_FitsByProvides dec_Matches dec_MatchesSome dec_ConflictsWith dec_BreaksOther dec_MeetsClause dec_MeetsClauses dec_SameVersion dec_HasRecord dec_ForOthers dec_SomeOther dec_ForMembers dec_FitsThenAndNow dec_MatchOption dec_FitsFromBefore dec_SatisfiesAtom dec_IsSatisfied dec_HasPreDepends dec_IsCompatible dec_HasNoConflict dec_BreaksNone dec_OnListed dec_IsNotHeld dec_StandsAs dec_AreConfigurable dec_ArePreDependsInstalled dec_AreDependsInstalled dec_IsUnbroken dec_AreUnbroken dec_IsMetWithout dec_NeedsNot dec_IsNeededByNone dec_IsNotNeeded dec_named dec_MemberPasses greatest_upto greatest_part dec_IsIndivisible dec_UnpackAsks dec_ConfigureAsks dec_RemoveAsks dec_DeconfigureAsks dec_PurgeAsks dec_Asks kept_or_first allowed_or_failing dec_HasMember dec_Stays dec_IsMetByStaying dec_IsReady dec_HaveNoClash dec_purges dec_IsPurgeGoal dec_unpacked_unheld dec_each_name dec_present dec_IsPlain dec_Allowed dec_Less dec_IsToRemove dec_MayGo dec_IsStillInstalled dec_IsLeastName dec_none dec_IsNextRemoval dec_AreRemovals dec_MatchedByNoOther
 content_b = record {
   pre_depends = so (dec_MeetsClauses members b_1.relations.pre_depends) refl;
   depends = so (dec_MeetsClauses members b_1.relations.depends) refl;
@@ -264,7 +264,7 @@ is_change = record {
   built = record {
     distinct = λ i j d before within. absurd (omega arith);
     starts = refl;
-    standing = All-nil (λ (found : Record). Stands found → HasPair u found.name found.version);
+    standing = All-nil (λ (entry : Record). Stands entry → HasPair u entry.name entry.version);
     listed = both_pairs (λ pair. MatchOption pair.listed ⊤ (λ listed. IsOf pair.pkg.name pair.pkg.version listed.pkg))
         (refl, SameVersion-refl (codes "1")) (refl, SameVersion-refl (codes "1"));
   };

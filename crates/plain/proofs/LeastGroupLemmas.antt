@@ -42,7 +42,7 @@ pub names_unconfigured : (db : List Record) (group : List Name) → GroupPasses 
 unfolding AreConfigurable HasConfigurable
 names_unconfigured db group passes = All-intro (Contains (unconfigured_of db)) group (λ name within.
     Any-elim (λ (r : Record). (r.name ≡ name) × IsConfigurable r) db (Contains (unconfigured_of db) name)
-    (λ found there is. subst (Contains (unconfigured_of db)) is.0 (record_unconfigured db found there is.1.0))
+    (λ entry there is. subst (Contains (unconfigured_of db)) is.0 (record_unconfigured db entry there is.1.0))
     (All-contains (λ n. HasRecord IsConfigurable n db) group name passes.configurable within))
 
 -- nothing is kept of nothing
@@ -76,13 +76,13 @@ module _ (db : List Record) (kept group part : List Name) (name : Name) (walk : 
 
   -- a group with the name is no lesser one than a part without it
   not_lesser : (other : List Name) → IsPassing db other → All (Contains group) other → Contains other name
-      → (found : List Name) → All (Contains part) found → ¬ IsLesserGroup other found
-  not_lesser other passing inside has found of_part lesser =
-      let there = part_within lesser.name (All-contains (Contains part) found lesser.name of_part lesser.within) in
+      → (some_group : List Name) → All (Contains part) some_group → ¬ IsLesserGroup other some_group
+  not_lesser other passing inside has some_group of_part lesser =
+      let there = part_within lesser.name (All-contains (Contains part) some_group lesser.name of_part lesser.within) in
       let unkept : ¬ Contains kept lesser.name = λ among. lesser.without
       (All-contains (Contains other) kept lesser.name (walk.whole other passing inside) among) in
       let lower = next.greatest lesser.name there.0 unkept (λ same. lesser.without (subst (Contains other) (sym same) has)) in
-      (part_within name (All-contains (Contains part) found name of_part ((lesser.above name lower).0 has))).1 refl
+      (part_within name (All-contains (Contains part) some_group name of_part ((lesser.above name lower).0 has))).1 refl
 
   leaves_out : 0 < length part → IsOnWalk db kept part
   leaves_out some = record {
@@ -93,13 +93,13 @@ module _ (db : List Record) (kept group part : List Name) (name : Name) (walk : 
     whole = λ other passing inside. walk.whole other passing (in_group other inside);
     least = λ other passing. elim (walk.least other passing) [
       | inl inside ↦ decided other passing inside (dec_Contains other name)
-      | inr above ↦ inr (λ found of_part. above found (in_group found of_part))
+      | inr above ↦ inr (λ some_group of_part. above some_group (in_group some_group of_part))
     ];
   }
     where
       decided : (other : List Name) → IsPassing db other → All (Contains group) other → Dec (Contains other name)
           → IsInOrAbove kept part other
-      decided other passing inside (yes has) = inr (λ found of_part has_kept. not_lesser other passing inside has found of_part)
+      decided other passing inside (yes has) = inr (λ some_group of_part has_kept. not_lesser other passing inside has some_group of_part)
       decided other passing inside (no without) = inl (in_part other passing inside without)
 
 pub walk_leaves_out : WalkLeavesOut
@@ -118,8 +118,8 @@ walk_keeps db kept group name walk next greatest = record {
       (walk.whole other passing inside);
   least = λ other passing. elim (walk.least other passing) [
     | inl inside ↦ inl inside
-    | inr above ↦ inr (λ found of_group has. above found of_group
-        (All-intro (Contains found) kept (λ one_ among. All-contains (Contains found) (name ∷ kept) one_ has (Contains-rest name kept one_ among))))
+    | inr above ↦ inr (λ some_group of_group has. above some_group of_group
+        (All-intro (Contains some_group) kept (λ one_ among. All-contains (Contains some_group) (name ∷ kept) one_ has (Contains-rest name kept one_ among))))
   ];
 }
   where
@@ -179,7 +179,7 @@ walk_ends u db kept group walk all = record {
 -- the walk comes to its end: each name is kept or among those to look at, of which each is above all that follow it
 walks : (u : Universe) (db : List Record) (left kept group : List Name) → IsDescending left → IsOnWalk db kept group
     → ((name : Name) → Contains group name → Contains kept name ⊎ Contains left name)
-    → (found : List Name) × IsLeastGroup u db found
+    → (some_group : List Name) × IsLeastGroup u db some_group
 walks u db [] kept group falls walk known = (
   kept,
   walk_ends u db kept group walk (All-intro (Contains kept) group (λ name within.
@@ -215,10 +215,10 @@ walks u db (name ∷ left) kept group falls walk known = look (dec_Contains grou
 
     looked : (part : List Name) → IsGreatestPart db (others_of name group) part → IsNextName kept group name
         → ((more : List Name) → IsOnWalk db kept more → ((other : Name) → Contains more other → Contains kept other ⊎ Contains left other)
-        → (found : List Name) × IsLeastGroup u db found)
+        → (some_group : List Name) × IsLeastGroup u db some_group)
         → (IsOnWalk db (name ∷ kept) group → ((other : Name) → Contains group other → Contains (name ∷ kept) other ⊎ Contains left other)
-        → (found : List Name) × IsLeastGroup u db found)
-        → (found : List Name) × IsLeastGroup u db found
+        → (some_group : List Name) × IsLeastGroup u db some_group)
+        → (some_group : List Name) × IsLeastGroup u db some_group
     looked [] greatest is without with_it = with_it (walk_keeps db kept group name walk is greatest) (λ other within. elim (known other within) [
       | inl among ↦ inl (Contains-rest name kept other among)
       | inr there ↦ elim (Contains-cons name left other there) [
@@ -235,12 +235,12 @@ walks u db (name ∷ left) kept group falls walk known = look (dec_Contains grou
         ])
 
     look : Dec (Contains group name) → Dec (Contains kept name)
-        → (((other : Name) → Contains group other → Contains kept other ⊎ Contains left other) → (found : List Name) × IsLeastGroup u db found)
+        → (((other : Name) → Contains group other → Contains kept other ⊎ Contains left other) → (some_group : List Name) × IsLeastGroup u db some_group)
         → ((more : List Name) → IsOnWalk db kept more → ((other : Name) → Contains more other → Contains kept other ⊎ Contains left other)
-        → (found : List Name) × IsLeastGroup u db found)
+        → (some_group : List Name) × IsLeastGroup u db some_group)
         → (IsOnWalk db (name ∷ kept) group → ((other : Name) → Contains group other → Contains (name ∷ kept) other ⊎ Contains left other)
-        → (found : List Name) × IsLeastGroup u db found)
-        → (found : List Name) × IsLeastGroup u db found
+        → (some_group : List Name) × IsLeastGroup u db some_group)
+        → (some_group : List Name) × IsLeastGroup u db some_group
     look (no outside) kept_too past without with_it = past (narrowed (λ other within same. absurd (outside (subst (Contains group) (sym same) within))))
     look (yes within) (yes among) past without with_it = past (narrowed (λ other there same. subst (Contains kept) same among))
     look (yes within) (no unkept) past without with_it =

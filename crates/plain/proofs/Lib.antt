@@ -8,7 +8,7 @@ pub mod LeastGroupLemmas
 pub mod MemberLemmas
 pub mod OneOrderLemmas
 pub mod OrderLemmas
-pub mod PeaceLemmas
+pub mod ClashLemmas
 pub mod PlainDecided
 pub mod PlainRows
 pub mod PurgeLemmas

@@ -65,15 +65,15 @@ find_nothing {X} p (y ∷ ys) none = at (p y) refl (find_nothing p ys (λ z behi
     at false is later = later
 
 -- two pairs of one name and version are one
-one_pair : (u : Universe) → AllPairs (λ earlier later. pair_cmp earlier later ≡ Less) u.pairs → (pair found : Pair)
-    → Contains u.pairs pair → Contains u.pairs found → found.pkg.name ≡ pair.pkg.name
-    → SameVersion found.pkg.version pair.pkg.version → found ≡ pair
-one_pair u ascending pair found within there names versions =
-    elim (either_before (λ (a b : Pair). pair_cmp a b ≡ Less) u.pairs ascending found pair there within) [
+one_pair : (u : Universe) → AllPairs (λ earlier later. pair_cmp earlier later ≡ Less) u.pairs → (pair other : Pair)
+    → Contains u.pairs pair → Contains u.pairs other → other.pkg.name ≡ pair.pkg.name
+    → SameVersion other.pkg.version pair.pkg.version → other ≡ pair
+one_pair u ascending pair other within there names versions =
+    elim (either_before (λ (a b : Pair). pair_cmp a b ≡ Less) u.pairs ascending other pair there within) [
       | inl same ↦ same
-      | inr (inl below) ↦ absurd (not_below found pair names versions below)
-      | inr (inr below) ↦ absurd (not_below pair found (sym names)
-          (same_version_equivalence.symmetric found.pkg.version pair.pkg.version versions) below)
+      | inr (inl below) ↦ absurd (not_below other pair names versions below)
+      | inr (inr below) ↦ absurd (not_below pair other (sym names)
+          (same_version_equivalence.symmetric other.pkg.version pair.pkg.version versions) below)
     ]
   where
     not_below : (a b : Pair) → a.pkg.name ≡ b.pkg.name → SameVersion a.pkg.version b.pkg.version → ¬ (pair_cmp a b ≡ Less)
@@ -92,7 +92,7 @@ picked_from number selection (pair ∷ rest) pkg within =
   where
     behind : (other : Pair) × Contains rest other × (other.pkg ≡ pkg)
         → (other : Pair) × Contains (pair ∷ rest) other × (other.pkg ≡ pkg)
-    behind found = (found.0, Contains-rest pair rest found.0 found.1, found.2)
+    behind later_pair = (later_pair.0, Contains-rest pair rest later_pair.0 later_pair.1, later_pair.2)
 
     at : (b : Bool)
         → (Contains (selected_from (number + 1) selection rest) pkg → (other : Pair) × Contains rest other × (other.pkg ≡ pkg))
@@ -110,8 +110,8 @@ unfolding selected
 picked u selection pkg within = picked_from 1 selection u.pairs pkg within
 
 -- an installed record with flag ok stands
-pub installed_stands : (found : Record) → IsInstalled found → HasSoundFlag found → Stands found
-installed_stands found is sound = rw (is, sound) (or_true (is_unconfigured_state found.state))
+pub installed_stands : (entry : Record) → IsInstalled entry → HasSoundFlag entry → Stands entry
+installed_stands entry is sound = rw (is, sound) (or_true (is_unconfigured_state entry.state))
   where
     or_true : (b : Bool) → ((b || true) && true) ≡ true
     or_true true = refl
@@ -134,48 +134,48 @@ module _ (u : Universe) (start : List Record) (selection : ℕ → Bool) (change
       sym their.2 ∙ ap (λ (p : Pair). p.pkg) same ∙ mine.2
 
   -- the record of a member's version that stands at the start has the member's package
-  pub standing_package : (pkg : Pkg) → Contains (selected u selection) pkg → (found : Record) → Contains start found
-      → found.name ≡ pkg.name → Stands found → SameVersion found.version pkg.version → pkg_of found ≡ pkg
-  standing_package pkg within found there named stands same =
+  pub standing_package : (pkg : Pkg) → Contains (selected u selection) pkg → (entry : Record) → Contains start entry
+      → entry.name ≡ pkg.name → Stands entry → SameVersion entry.version pkg.version → pkg_of entry ≡ pkg
+  standing_package pkg within entry there named stands same =
       let mine = picked u selection pkg within in
-      let has : HasItsPackage mine.0 found = All-contains (HasItsPackage mine.0) start found
+      let has : HasItsPackage mine.0 entry = All-contains (HasItsPackage mine.0) start entry
       (All-contains (λ (pair : Pair). All (HasItsPackage pair) start) u.pairs mine.0 change.counted.standing mine.1) there in
       has (named ∙ sym (ap (λ (p : Pkg). p.name) mine.2)) stands
-      (subst (λ (p : Pkg). SameVersion found.version p.version) (sym mine.2) same) ∙ mine.2
+      (subst (λ (p : Pkg). SameVersion entry.version p.version) (sym mine.2) same) ∙ mine.2
 
   -- the record of a member that stands at the start
   pub standing_record_of : (pkg : Pkg) → Contains (selected u selection) pkg → StandsAs start pkg.name pkg.version
-      → (found : Record) × Contains start found × Stands found × (pkg_of found ≡ pkg)
+      → (entry : Record) × Contains start entry × Stands entry × (pkg_of entry ≡ pkg)
   unfolding StandsAs
   standing_record_of pkg within stands = Any-elim (λ (r : Record). (r.name ≡ pkg.name) × (Stands r × SameVersion r.version pkg.version)) start
-      ((found : Record) × Contains start found × Stands found × (pkg_of found ≡ pkg))
-      (λ found there is. (found, there, is.1.0, standing_package pkg within found there is.0 is.1.0 is.1.1)) stands
+      ((entry : Record) × Contains start entry × Stands entry × (pkg_of entry ≡ pkg))
+      (λ entry there is. (entry, there, is.1.0, standing_package pkg within entry there is.0 is.1.0 is.1.1)) stands
 
   -- the record of a member that stays
   pub staying_record_of : (pkg : Pkg) → Contains (selected u selection) pkg → Stays start pkg
-      → (found : Record) × Contains start found × IsInstalled found × HasSoundFlag found × (pkg_of found ≡ pkg)
+      → (entry : Record) × Contains start entry × IsInstalled entry × HasSoundFlag entry × (pkg_of entry ≡ pkg)
   unfolding Stays
   staying_record_of pkg within stays = Any-elim
       (λ (r : Record). (r.name ≡ pkg.name) × (IsInstalled r × HasSoundFlag r × SameVersion r.version pkg.version)) start
-      ((found : Record) × Contains start found × IsInstalled found × HasSoundFlag found × (pkg_of found ≡ pkg))
-      (λ found there is. (
-        found,
+      ((entry : Record) × Contains start entry × IsInstalled entry × HasSoundFlag entry × (pkg_of entry ≡ pkg))
+      (λ entry there is. (
+        entry,
         there,
         is.1.0,
         is.1.1,
-        standing_package pkg within found there is.0 (installed_stands found is.1.0 is.1.1) is.1.2,
+        standing_package pkg within entry there is.0 (installed_stands entry is.1.0 is.1.1) is.1.2,
       )) stays
 
   -- what stays stands
   pub staying_stands : (pkg : Pkg) → Contains (selected u selection) pkg → Stays start pkg → StandsAs start pkg.name pkg.version
   unfolding StandsAs
   staying_stands pkg within stays =
-      let found = staying_record_of pkg within stays in
-      Any-intro (λ (r : Record). (r.name ≡ pkg.name) × (Stands r × SameVersion r.version pkg.version)) start found.0 found.1 (
-        ap (λ (p : Pkg). p.name) found.4,
+      let entry = staying_record_of pkg within stays in
+      Any-intro (λ (r : Record). (r.name ≡ pkg.name) × (Stands r × SameVersion r.version pkg.version)) start entry.0 entry.1 (
+        ap (λ (p : Pkg). p.name) entry.4,
         (
-          installed_stands found.0 found.2 found.3,
-          subst (λ (p : Pkg). SameVersion found.0.version p.version) found.4 (same_version_equivalence.reflexive found.0.version),
+          installed_stands entry.0 entry.2 entry.3,
+          subst (λ (p : Pkg). SameVersion entry.0.version p.version) entry.4 (same_version_equivalence.reflexive entry.0.version),
         ),
       )
 
@@ -208,8 +208,8 @@ module _ (u : Universe) (start : List Record) (selection : ℕ → Bool) (change
           (subst (λ (p : Pkg). SameVersion other.pkg.version p.version) (sym mine.2)
           ((Equal-is (version_cmp other.pkg.version pkg.version)).0 both.1))
 
-      found : listed_of u pkg.name pkg.version ≡ mine.0.listed
-      found = ap (λ (o : Option Pair). option_and_then (λ (p : Pair). p.listed) o)
+      is_listed : listed_of u pkg.name pkg.version ≡ mine.0.listed
+      is_listed = ap (λ (o : Option Pair). option_and_then (λ (p : Pair). p.listed) o)
           (find_only (λ (p : Pair). is_of pkg.name pkg.version p.pkg) u.pairs mine.0 mine.1 passes only)
 
       at : (listed : Option IndexPackage) → mine.0.listed ≡ listed → MatchOption mine.0.listed ⊥ (λ (l : IndexPackage). l.pkg ≡ mine.0.pkg)
@@ -217,7 +217,7 @@ module _ (u : Universe) (start : List Record) (selection : ℕ → Bool) (change
       at None is has = absurd (subst (λ (o : Option IndexPackage). MatchOption o ⊥ (λ (l : IndexPackage). l.pkg ≡ mine.0.pkg)) is has)
       at (Some listed) is has = (
         listed,
-        found ∙ is,
+        is_listed ∙ is,
         subst (λ (o : Option IndexPackage). MatchOption o ⊥ (λ (l : IndexPackage). l.pkg ≡ mine.0.pkg)) is has ∙ mine.2,
       )
 
@@ -229,30 +229,30 @@ module _ (inputs : Inputs) (u : Universe) (distinct : HasDistinctNames inputs.st
 
   -- the test of the record that stands in a version
   abbrev is_it : Pair → Record → Bool
-  is_it pair found = is_named pair.pkg.name found && stands found && same_version found.version pair.pkg.version
+  is_it pair entry = is_named pair.pkg.name entry && stands entry && same_version entry.version pair.pkg.version
 
-  it_is : (pair : Pair) (found : Record) → is_it pair found ≡ true
-      → (found.name ≡ pair.pkg.name) × Stands found × SameVersion found.version pair.pkg.version
-  it_is pair found passes =
-      let one = both_true (is_named pair.pkg.name found && stands found) (same_version found.version pair.pkg.version) passes in
-      let two = both_true (is_named pair.pkg.name found) (stands found) one.0 in
-      (bytes_eq-true found.name pair.pkg.name two.0, two.1, (Equal-is (version_cmp found.version pair.pkg.version)).0 one.1)
+  it_is : (pair : Pair) (entry : Record) → is_it pair entry ≡ true
+      → (entry.name ≡ pair.pkg.name) × Stands entry × SameVersion entry.version pair.pkg.version
+  it_is pair entry passes =
+      let one = both_true (is_named pair.pkg.name entry && stands entry) (same_version entry.version pair.pkg.version) passes in
+      let two = both_true (is_named pair.pkg.name entry) (stands entry) one.0 in
+      (bytes_eq-true entry.name pair.pkg.name two.0, two.1, (Equal-is (version_cmp entry.version pair.pkg.version)).0 one.1)
 
-  it_passes : (pair : Pair) (found : Record) → found.name ≡ pair.pkg.name → Stands found
-      → SameVersion found.version pair.pkg.version → is_it pair found ≡ true
-  it_passes pair found named stands same =
-      rw (bytes_eq-same found.name pair.pkg.name named, stands) ((Equal-is (version_cmp found.version pair.pkg.version)).1 same)
+  it_passes : (pair : Pair) (entry : Record) → entry.name ≡ pair.pkg.name → Stands entry
+      → SameVersion entry.version pair.pkg.version → is_it pair entry ≡ true
+  it_passes pair entry named stands same =
+      rw (bytes_eq-same entry.name pair.pkg.name named, stands) ((Equal-is (version_cmp entry.version pair.pkg.version)).1 same)
 
-  standing_counts : (pair : Pair) → Contains u.pairs pair → (found : Record) → Contains inputs.start found
-      → HasItsPackage pair found
-  standing_counts pair within found there named stands same =
-      let here : standing_record inputs.start pair.pkg.name pair.pkg.version ≡ Some found =
-      find_only (is_it pair) inputs.start found there (it_passes pair found named stands same)
-      (λ other also passes. one_record inputs.start distinct found other there also ((it_is pair other passes).0 ∙ sym named)) in
-      let e : counting_package inputs pair.pkg.name pair.pkg.version ≡ Some (pkg_of found) =
+  standing_counts : (pair : Pair) → Contains u.pairs pair → (entry : Record) → Contains inputs.start entry
+      → HasItsPackage pair entry
+  standing_counts pair within entry there named stands same =
+      let here : standing_record inputs.start pair.pkg.name pair.pkg.version ≡ Some entry =
+      find_only (is_it pair) inputs.start entry there (it_passes pair entry named stands same)
+      (λ other also passes. one_record inputs.start distinct entry other there also ((it_is pair other passes).0 ∙ sym named)) in
+      let e : counting_package inputs pair.pkg.name pair.pkg.version ≡ Some (pkg_of entry) =
       ap (λ (r : Option Record). option_or (option_map pkg_of r)
       (option_map (λ (l : IndexPackage). l.pkg) (index_package inputs.indices pair.pkg.name pair.pkg.version))) here in
-      same_Some (pkg_of found) pair.pkg (sym e ∙ counts pair within)
+      same_Some (pkg_of entry) pair.pkg (sym e ∙ counts pair within)
 
   listed_counts : (pair : Pair) → Contains u.pairs pair → HasItsListed inputs.start pair
   unfolding StandsAs
@@ -260,9 +260,9 @@ module _ (inputs : Inputs) (u : Universe) (distinct : HasDistinctNames inputs.st
       (All-contains (λ (p : Pair). index_package inputs.indices p.pkg.name p.pkg.version ≡ p.listed) u.pairs pair is.listed within)
     where
       nothing : standing_record inputs.start pair.pkg.name pair.pkg.version ≡ None
-      nothing = find_nothing (is_it pair) inputs.start (λ found there passes.
-          let it = it_is pair found passes in
-          none (Any-intro (λ (r : Record). (r.name ≡ pair.pkg.name) × (Stands r × SameVersion r.version pair.pkg.version)) inputs.start found there
+      nothing = find_nothing (is_it pair) inputs.start (λ entry there passes.
+          let it = it_is pair entry passes in
+          none (Any-intro (λ (r : Record). (r.name ≡ pair.pkg.name) × (Stands r × SameVersion r.version pair.pkg.version)) inputs.start entry there
           (it.0, (it.1, it.2))))
 
       by_index : option_map (λ (l : IndexPackage). l.pkg) (index_package inputs.indices pair.pkg.name pair.pkg.version) ≡ Some pair.pkg
@@ -279,6 +279,6 @@ pub universe_is_counted : UniverseIsCounted
 universe_is_counted inputs u distinct is = record {
   ascending = is.ascending;
   standing = All-intro (λ (pair : Pair). All (HasItsPackage pair) inputs.start) u.pairs (λ pair within.
-      All-intro (HasItsPackage pair) inputs.start (λ found there. standing_counts inputs u distinct is pair within found there));
+      All-intro (HasItsPackage pair) inputs.start (λ entry there. standing_counts inputs u distinct is pair within entry there));
   listed = All-intro (HasItsListed inputs.start) u.pairs (λ pair within. listed_counts inputs u distinct is pair within);
 }

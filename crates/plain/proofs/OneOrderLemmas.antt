@@ -136,8 +136,8 @@ one_group u db names others first second = at (dec_Any (Differs names others) (d
 
     at : Dec (Any (Differs names others) (names ++ others)) → names ≡ others
     at (yes some) =
-        let found = greatest_of (Differs names others) (dec_Differs names others) (names ++ others) some in
-        absurd (lesser found.0 found.1 found.2)
+        let greatest = greatest_of (Differs names others) (dec_Differs names others) (names ++ others) some in
+        absurd (lesser greatest.0 greatest.1 greatest.2)
     at (no none) = same_names names others first.ascending second.ascending
         (λ name within. in_other names others name (agrees none name (Contains-append_left names others name within)) within (dec_Contains others name))
         (λ name within. in_other others names name (λ differs. agrees none name (Contains-append_right names others name within)

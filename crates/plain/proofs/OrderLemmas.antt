@@ -14,7 +14,7 @@ use Rattle.plain.specs.PhaseLaws.{AreUnpacked, EndsWell}
 use Rattle.plain.specs.Order.{AreConfigures, AreRemovals, IsConfigurableGroup, after_all, unpack_of}
 use Rattle.plain.specs.Underway.{IsUnderway}
 use Rattle.plain.proofs.ConfigureLemmas.{configures_keep}
-use Rattle.plain.proofs.PeaceLemmas.{start_is_quiet}
+use Rattle.plain.proofs.ClashLemmas.{start_is_quiet}
 use Rattle.plain.proofs.PurgeLemmas.{purges_end_well}
 use Rattle.plain.proofs.RemovalLemmas.{removals_are_allowed}
 use Rattle.plain.proofs.UnpackLemmas.{unpacks_are_allowed}

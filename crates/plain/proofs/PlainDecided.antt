@@ -23,16 +23,16 @@ use Rattle.rules.proofs.Decided.{dec_All, dec_Any, dec_IsTrue, dec_and, dec_and3
 use Rattle.rules.proofs.DecidedPackages.{dec_BreaksOther, dec_ConflictsWith, dec_MatchesSome, dec_SameVersion}
 use Rattle.rules.proofs.DecidedSteps.{dec_HasRecord, dec_IsNotHeld, dec_StandsAs}
 use Rattle.rules.proofs.LegalLemmas.{allowed_fails_none, allowed_or_failing}
-use Rattle.plain.specs.Change.{AreAtPeace, IsMetByStaying, IsPlain, IsPurgeGoal, IsReady, IsToRemove, IsToUnpack, Stays, old_and_new}
+use Rattle.plain.specs.Change.{HaveNoClash, IsMetByStaying, IsPlain, IsPurgeGoal, IsReady, IsToRemove, IsToUnpack, Stays, old_and_new}
 use Rattle.plain.specs.Order.{AreRemovals, IsLeastName, IsNextRemoval, IsStillInstalled, MayGo}
 use Rattle.plain.proofs.UnderwayLemmas.{dec_HasMember}
 use mathlib.Core.Logic.{inl, inr}
 
 unfoldable pub dec_Stays : (start : List Record) (member : Pkg) → Dec (Stays start member)
 unfolding Stays
-dec_Stays start member = dec_HasRecord (λ found. IsInstalled found × HasSoundFlag found × SameVersion found.version member.version)
-    (λ found. dec_and3 (dec_IsTrue (is_installed_state found.state)) (dec_IsTrue (is_sound_flag found.flag))
-    (dec_SameVersion found.version member.version)) member.name start
+dec_Stays start member = dec_HasRecord (λ entry. IsInstalled entry × HasSoundFlag entry × SameVersion entry.version member.version)
+    (λ entry. dec_and3 (dec_IsTrue (is_installed_state entry.state)) (dec_IsTrue (is_sound_flag entry.flag))
+    (dec_SameVersion entry.version member.version)) member.name start
 
 unfoldable pub dec_IsMetByStaying : (start : List Record) (members : List Pkg) (name : List ℕ) (clause : List Atom)
     → Dec (IsMetByStaying start members name clause)
@@ -48,9 +48,9 @@ dec_IsReady start members member = dec_implies (dec_not (dec_Stays start member)
 abbrev DoNotClash : Pkg → Pkg → Type 0
 DoNotClash pkg other = other.name ≢ pkg.name → (¬ ConflictsWith pkg other) × (¬ BreaksOther pkg other)
 
-unfoldable pub dec_AreAtPeace : (start : List Record) (members : List Pkg) → Dec (AreAtPeace start members)
-unfolding AreAtPeace
-dec_AreAtPeace start members = dec_like
+unfoldable pub dec_HaveNoClash : (start : List Record) (members : List Pkg) → Dec (HaveNoClash start members)
+unfolding HaveNoClash
+dec_HaveNoClash start members = dec_like
     (λ all pkg other within there. All-contains (DoNotClash pkg) (old_and_new start members) other
     (All-contains (λ p. All (DoNotClash p) (old_and_new start members)) (old_and_new start members) pkg all within) there)
     (λ each. All-intro (λ p. All (DoNotClash p) (old_and_new start members)) (old_and_new start members) (λ pkg within.
@@ -85,22 +85,22 @@ dec_unpacked_unheld start members = dec_like
     (λ p. dec_implies (dec_not (dec_StandsAs start p.name p.version)) (dec_IsNotHeld start p.name)) members)
 
 -- of each name with a record that has a property, where it is decided of each record
-unfoldable pub dec_each_name : (P : Record → Type 0) (Q R : List ℕ → Type 0) → ((found : Record) → Dec (P found)) → ((name : List ℕ) → Dec (Q name))
+unfoldable pub dec_each_name : (P : Record → Type 0) (Q R : List ℕ → Type 0) → ((entry : Record) → Dec (P entry)) → ((name : List ℕ) → Dec (Q name))
     → ((name : List ℕ) → Dec (R name)) → (db : List Record) → Dec ((name : List ℕ) → HasRecord P name db → Q name → R name)
 dec_each_name P Q R dec_P dec_Q dec_R db = dec_like
-    (λ all name has asked. Any-elim (λ (r : Record). (r.name ≡ name) × P r) db (R name) (λ found within is.
-    subst R is.0 (All-contains (λ (r : Record). P r → Q r.name → R r.name) db found all within is.1 (subst Q (sym is.0) asked))) has)
-    (λ each. All-intro (λ (r : Record). P r → Q r.name → R r.name) db (λ found within is asked.
-    each found.name (Any-intro (λ (r : Record). (r.name ≡ found.name) × P r) db found within (refl, is)) asked))
+    (λ all name has asked. Any-elim (λ (r : Record). (r.name ≡ name) × P r) db (R name) (λ entry within is.
+    subst R is.0 (All-contains (λ (r : Record). P r → Q r.name → R r.name) db entry all within is.1 (subst Q (sym is.0) asked))) has)
+    (λ each. All-intro (λ (r : Record). P r → Q r.name → R r.name) db (λ entry within is asked.
+    each entry.name (Any-intro (λ (r : Record). (r.name ≡ entry.name) × P r) db entry within (refl, is)) asked))
     (dec_All (λ (r : Record). P r → Q r.name → R r.name) (λ r. dec_implies (dec_P r) (dec_implies (dec_Q r.name) (dec_R r.name))) db)
 
-unfoldable pub dec_present : (found : Record) → Dec (IsPresent found)
-dec_present found = dec_IsTrue (is_present_state found.state)
+unfoldable pub dec_present : (entry : Record) → Dec (IsPresent entry)
+dec_present entry = dec_IsTrue (is_present_state entry.state)
 
 unfoldable pub dec_IsPlain : (u : Universe) (start : List Record) (members : List Pkg) → Dec (IsPlain u start members)
 dec_IsPlain u start members = dec_like
     (λ all. record {
-      peace = all.0.0;
+      no_clash = all.0.0;
       ready = all.0.1;
       unpacked_unheld = all.1.0.0;
       removed_unheld = λ name goes. all.1.0.1 name goes.0 goes.1;
@@ -109,20 +109,20 @@ dec_IsPlain u start members = dec_like
       left_sound = all.1.1.1.1;
     })
     (λ plain. (
-      (plain.peace, plain.ready),
+      (plain.no_clash, plain.ready),
       (
         (plain.unpacked_unheld, λ name has alone. plain.removed_unheld name (has, alone)),
         ((λ name has asked. plain.purged_unheld name (asked, has)), (plain.removed_sound, plain.left_sound)),
       ),
     ))
     (dec_and
-    (dec_and (dec_AreAtPeace start members) (dec_All (IsReady start members) (dec_IsReady start members) members))
+    (dec_and (dec_HaveNoClash start members) (dec_All (IsReady start members) (dec_IsReady start members) members))
     (dec_and
     (dec_and (dec_unpacked_unheld start members)
     (dec_each_name IsPresent (λ name. ¬ HasMember name members) (IsNotHeld start) dec_present
     (λ name. dec_not (dec_HasMember name members)) (dec_IsNotHeld start) start))
     (dec_and
-    (dec_each_name IsRemoved (IsPurgeGoal u) (IsNotHeld start) (λ found. dec_IsTrue (is_config_files_state found.state))
+    (dec_each_name IsRemoved (IsPurgeGoal u) (IsNotHeld start) (λ entry. dec_IsTrue (is_config_files_state entry.state))
     (dec_IsPurgeGoal u) (dec_IsNotHeld start) start)
     (dec_and
     (dec_All (λ (r : Record). IsPresent r → ¬ HasMember r.name members → HasSoundFlag r)
@@ -137,7 +137,7 @@ dec_Allowed u db taken = at (allowed_or_failing u db taken)
   where
     at : Allowed u db taken ⊎ ((failing : Rule) × IsFirstFailing u db taken failing) → Dec (Allowed u db taken)
     at (inl allowed) = yes allowed
-    at (inr found) = no (λ allowed. allowed_fails_none u db taken found.0 allowed found.1)
+    at (inr failing) = no (λ allowed. allowed_fails_none u db taken failing.0 allowed failing.1)
 
 unfoldable pub dec_Less : (o : Ordering) → Dec (o ≡ Less)
 dec_Less Less = yes refl
@@ -152,12 +152,12 @@ dec_MayGo u members db name = dec_and (dec_IsToRemove members db name) (dec_Allo
 
 unfoldable pub dec_IsStillInstalled : (members : List Pkg) (db : List Record) (name : List ℕ) → Dec (IsStillInstalled members db name)
 dec_IsStillInstalled members db name = dec_and (dec_IsToRemove members db name)
-    (dec_HasRecord IsInstalled (λ found. dec_IsTrue (is_installed_state found.state)) name db)
+    (dec_HasRecord IsInstalled (λ entry. dec_IsTrue (is_installed_state entry.state)) name db)
 
 -- the name of a record is a name of the database
 pub has_name : (P : Record → Type 0) (db : List Record) (name : List ℕ) → HasRecord P name db → Contains (map (λ (r : Record). r.name) db) name
 has_name P db name has = Any-elim (λ (r : Record). (r.name ≡ name) × P r) db (Contains (map (λ (r : Record). r.name) db) name)
-    (λ found within is. subst (Contains (map (λ (r : Record). r.name) db)) is.0 (Contains-map_intro (λ (r : Record). r.name) db found within)) has
+    (λ entry within is. subst (Contains (map (λ (r : Record). r.name) db)) is.0 (Contains-map_intro (λ (r : Record). r.name) db entry within)) has
 
 -- whether a name is the least with a property that only listed names have
 unfoldable pub dec_IsLeastName : (P : List ℕ → Type 0) → ((name : List ℕ) → Dec (P name)) → (names : List (List ℕ))

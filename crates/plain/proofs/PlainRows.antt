@@ -20,7 +20,7 @@ use Rattle.rules.proofs.LegalLemmas.{dec_UnpackAsks, dec_ConfigureAsks, dec_Remo
 use Rattle.rules.proofs.Rows.{so, not_so, any_of, some_of, package_of, record_of, indexed, unindexed, universe_of}
 use Rattle.plain.specs.Change.{IsPlain}
 use Rattle.plain.specs.Order.{AreRemovals, IsNextRemoval}
-use Rattle.plain.proofs.PlainDecided.{dec_Stays, dec_IsMetByStaying, dec_IsReady, dec_AreAtPeace, dec_purges, dec_IsPurgeGoal, dec_unpacked_unheld, dec_each_name, dec_present, dec_IsPlain, dec_Allowed, dec_Less, dec_IsToRemove, dec_MayGo, dec_IsStillInstalled, dec_IsLeastName, dec_none, dec_IsNextRemoval, dec_AreRemovals}
+use Rattle.plain.proofs.PlainDecided.{dec_Stays, dec_IsMetByStaying, dec_IsReady, dec_HaveNoClash, dec_purges, dec_IsPurgeGoal, dec_unpacked_unheld, dec_each_name, dec_present, dec_IsPlain, dec_Allowed, dec_Less, dec_IsToRemove, dec_MayGo, dec_IsStillInstalled, dec_IsLeastName, dec_none, dec_IsNextRemoval, dec_AreRemovals}
 use Rattle.plain.proofs.UnderwayLemmas.{dec_HasMember}
 
 -- `a 1; Depends: b` and `b 1; Depends: a`
@@ -44,7 +44,7 @@ pub ring_rows :
     (step.Deconfigure (codes "a") ∷ step.Remove (codes "b") ∷ step.Remove (codes "a") ∷ [])
     × (¬ IsNextRemoval ring_universe [] ring (step.Deconfigure (codes "b")))
     × (¬ IsNextRemoval ring_universe [] ring (step.Remove (codes "b")))
-unfolding version_cmp dec_Decides dec_IsTrue dec_IsFalse dec_and dec_and3 dec_or dec_not dec_implies dec_like dec_All dec_Any dec_text dec_Equal dec_Contains all_or_some dec_MeetsRestriction dec_Meets dec_MeetsAsProvided dec_FitsByName dec_FitsProvided dec_FitsByProvides dec_Matches dec_MatchesSome dec_ConflictsWith dec_BreaksOther dec_MeetsClause dec_MeetsClauses dec_SameVersion dec_HasRecord dec_ForOthers dec_SomeOther dec_ForMembers dec_FitsThenAndNow dec_MatchOption dec_FitsFromBefore dec_SatisfiesAtom dec_IsSatisfied dec_HasPreDepends dec_IsCompatible dec_HasNoConflict dec_BreaksNone dec_OnListed dec_IsNotHeld dec_StandsAs dec_AreConfigurable dec_ArePreDependsInstalled dec_AreDependsInstalled dec_IsUnbroken dec_AreUnbroken dec_IsMetWithout dec_NeedsNot dec_IsNeededByNone dec_IsNotNeeded dec_named dec_MemberPasses greatest_upto greatest_part dec_IsIndivisible dec_UnpackAsks dec_ConfigureAsks dec_RemoveAsks dec_DeconfigureAsks dec_PurgeAsks dec_Asks kept_or_first allowed_or_failing dec_HasMember dec_Stays dec_IsMetByStaying dec_IsReady dec_AreAtPeace dec_purges dec_IsPurgeGoal dec_unpacked_unheld dec_each_name dec_present dec_IsPlain dec_Allowed dec_Less dec_IsToRemove dec_MayGo dec_IsStillInstalled dec_IsLeastName dec_none dec_IsNextRemoval dec_AreRemovals
+unfolding version_cmp dec_Decides dec_IsTrue dec_IsFalse dec_and dec_and3 dec_or dec_not dec_implies dec_like dec_All dec_Any dec_text dec_Equal dec_Contains all_or_some dec_MeetsRestriction dec_Meets dec_MeetsAsProvided dec_FitsByName dec_FitsProvided dec_FitsByProvides dec_Matches dec_MatchesSome dec_ConflictsWith dec_BreaksOther dec_MeetsClause dec_MeetsClauses dec_SameVersion dec_HasRecord dec_ForOthers dec_SomeOther dec_ForMembers dec_FitsThenAndNow dec_MatchOption dec_FitsFromBefore dec_SatisfiesAtom dec_IsSatisfied dec_HasPreDepends dec_IsCompatible dec_HasNoConflict dec_BreaksNone dec_OnListed dec_IsNotHeld dec_StandsAs dec_AreConfigurable dec_ArePreDependsInstalled dec_AreDependsInstalled dec_IsUnbroken dec_AreUnbroken dec_IsMetWithout dec_NeedsNot dec_IsNeededByNone dec_IsNotNeeded dec_named dec_MemberPasses greatest_upto greatest_part dec_IsIndivisible dec_UnpackAsks dec_ConfigureAsks dec_RemoveAsks dec_DeconfigureAsks dec_PurgeAsks dec_Asks kept_or_first allowed_or_failing dec_HasMember dec_Stays dec_IsMetByStaying dec_IsReady dec_HaveNoClash dec_purges dec_IsPurgeGoal dec_unpacked_unheld dec_each_name dec_present dec_IsPlain dec_Allowed dec_Less dec_IsToRemove dec_MayGo dec_IsStillInstalled dec_IsLeastName dec_none dec_IsNextRemoval dec_AreRemovals
 ring_rows = (
   so (dec_IsPlain ring_universe ring []) refl,
   so (dec_AreRemovals ring_universe [] ring (step.Deconfigure (codes "a") ∷ step.Remove (codes "b") ∷ step.Remove (codes "a") ∷ [])) refl,
@@ -87,7 +87,7 @@ pub plain_rows :
     × (¬ IsPlain p_q_universe p_and_q (p_1 ∷ q_2 ∷ r_1 ∷ []))
     × IsPlain p_q_universe p_and_q (q_1 ∷ [])
     × (¬ IsPlain p_q_universe p_held (q_1 ∷ []))
-unfolding version_cmp dec_Decides dec_IsTrue dec_IsFalse dec_and dec_and3 dec_or dec_not dec_implies dec_like dec_All dec_Any dec_text dec_Equal dec_Contains all_or_some dec_MeetsRestriction dec_Meets dec_MeetsAsProvided dec_FitsByName dec_FitsProvided dec_FitsByProvides dec_Matches dec_MatchesSome dec_ConflictsWith dec_BreaksOther dec_MeetsClause dec_MeetsClauses dec_SameVersion dec_HasRecord dec_ForOthers dec_SomeOther dec_ForMembers dec_FitsThenAndNow dec_MatchOption dec_FitsFromBefore dec_SatisfiesAtom dec_IsSatisfied dec_HasPreDepends dec_IsCompatible dec_HasNoConflict dec_BreaksNone dec_OnListed dec_IsNotHeld dec_StandsAs dec_AreConfigurable dec_ArePreDependsInstalled dec_AreDependsInstalled dec_IsUnbroken dec_AreUnbroken dec_IsMetWithout dec_NeedsNot dec_IsNeededByNone dec_IsNotNeeded dec_named dec_MemberPasses greatest_upto greatest_part dec_IsIndivisible dec_UnpackAsks dec_ConfigureAsks dec_RemoveAsks dec_DeconfigureAsks dec_PurgeAsks dec_Asks kept_or_first allowed_or_failing dec_HasMember dec_Stays dec_IsMetByStaying dec_IsReady dec_AreAtPeace dec_purges dec_IsPurgeGoal dec_unpacked_unheld dec_each_name dec_present dec_IsPlain dec_Allowed dec_Less dec_IsToRemove dec_MayGo dec_IsStillInstalled dec_IsLeastName dec_none dec_IsNextRemoval dec_AreRemovals
+unfolding version_cmp dec_Decides dec_IsTrue dec_IsFalse dec_and dec_and3 dec_or dec_not dec_implies dec_like dec_All dec_Any dec_text dec_Equal dec_Contains all_or_some dec_MeetsRestriction dec_Meets dec_MeetsAsProvided dec_FitsByName dec_FitsProvided dec_FitsByProvides dec_Matches dec_MatchesSome dec_ConflictsWith dec_BreaksOther dec_MeetsClause dec_MeetsClauses dec_SameVersion dec_HasRecord dec_ForOthers dec_SomeOther dec_ForMembers dec_FitsThenAndNow dec_MatchOption dec_FitsFromBefore dec_SatisfiesAtom dec_IsSatisfied dec_HasPreDepends dec_IsCompatible dec_HasNoConflict dec_BreaksNone dec_OnListed dec_IsNotHeld dec_StandsAs dec_AreConfigurable dec_ArePreDependsInstalled dec_AreDependsInstalled dec_IsUnbroken dec_AreUnbroken dec_IsMetWithout dec_NeedsNot dec_IsNeededByNone dec_IsNotNeeded dec_named dec_MemberPasses greatest_upto greatest_part dec_IsIndivisible dec_UnpackAsks dec_ConfigureAsks dec_RemoveAsks dec_DeconfigureAsks dec_PurgeAsks dec_Asks kept_or_first allowed_or_failing dec_HasMember dec_Stays dec_IsMetByStaying dec_IsReady dec_HaveNoClash dec_purges dec_IsPurgeGoal dec_unpacked_unheld dec_each_name dec_present dec_IsPlain dec_Allowed dec_Less dec_IsToRemove dec_MayGo dec_IsStillInstalled dec_IsLeastName dec_none dec_IsNextRemoval dec_AreRemovals
 plain_rows = (
   not_so (dec_IsPlain p_q_universe p_and_q (p_2 ∷ q_2 ∷ [])) refl,
   so (dec_IsPlain p_q_universe p_and_q (p_1 ∷ q_2 ∷ [])) refl,

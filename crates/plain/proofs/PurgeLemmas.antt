@@ -32,7 +32,7 @@ use Rattle.plain.proofs.ConfigureLemmas.{all_members, record_unconfigured, stand
 use Rattle.plain.proofs.FittingLemmas.{fitting_too}
 use Rattle.plain.proofs.LeastGroupLemmas.{least_group_is_there, some_length}
 use Rattle.rules.proofs.Rising.{pairs_head, pairs_tail}
-use Rattle.plain.proofs.PeaceLemmas.{installed_present}
+use Rattle.plain.proofs.ClashLemmas.{installed_present}
 use Rattle.plain.proofs.UnderwayLemmas.{member_named, record_of_member}
 use Rattle.plain.proofs.UnpackLemmas.{less_differ, stands_sound}
 use mathlib.Core.Logic.{inl, inr}
@@ -45,15 +45,15 @@ allowed_purge u db name there unheld = All-cons (PurgeAsks db name) rule.WrongSt
     (All-cons (PurgeAsks db name) rule.Held [] unheld (All-nil (PurgeAsks db name)))
 
 -- behind purges there is what was there of other names, and nothing else
-pub purged_each : (u : Universe) (names : List (List ℕ)) (db : List Record) (found : Record)
-    → Contains (after_all u db (map step.Purge names)) found → Contains db found × ¬ Contains names found.name
-purged_each u [] db found within = (within, Contains-nil found.name)
-purged_each u (name ∷ rest) db found within =
-    let later = purged_each u rest (after u db (step.Purge name)) found within in
-    let kept = Contains-filter (λ (r : Record). not (is_named name r)) db found later.0 in (
+pub purged_each : (u : Universe) (names : List (List ℕ)) (db : List Record) (entry : Record)
+    → Contains (after_all u db (map step.Purge names)) entry → Contains db entry × ¬ Contains names entry.name
+purged_each u [] db entry within = (within, Contains-nil entry.name)
+purged_each u (name ∷ rest) db entry within =
+    let later = purged_each u rest (after u db (step.Purge name)) entry within in
+    let kept = Contains-filter (λ (r : Record). not (is_named name r)) db entry later.0 in (
       kept.0,
-      λ among. elim (Contains-cons name rest found.name among) [
-        | inl same ↦ named_not name found (fails (is_named name found) kept.1) (sym same)
+      λ among. elim (Contains-cons name rest entry.name among) [
+        | inl same ↦ named_not name entry (fails (is_named name entry) kept.1) (sym same)
         | inr behind ↦ later.1 behind
       ],
     )
@@ -62,13 +62,13 @@ purged_each u (name ∷ rest) db found within =
     fails false is = refl
     fails true is = absurd (let e : false ≡ true = is in cc)
 
-pub purged_keeps : (u : Universe) (names : List (List ℕ)) (db : List Record) (found : Record) → Contains db found
-    → ¬ Contains names found.name → Contains (after_all u db (map step.Purge names)) found
-purged_keeps u [] db found within outside = within
-purged_keeps u (name ∷ rest) db found within outside = purged_keeps u rest (after u db (step.Purge name)) found
-    (Contains-filter_intro (λ (r : Record). not (is_named name r)) db found within
-    (ap not (not_named name found (λ same. outside (subst (Contains (name ∷ rest)) (sym same) (Contains-head name rest))))))
-    (λ behind. outside (Contains-rest name rest found.name behind))
+pub purged_keeps : (u : Universe) (names : List (List ℕ)) (db : List Record) (entry : Record) → Contains db entry
+    → ¬ Contains names entry.name → Contains (after_all u db (map step.Purge names)) entry
+purged_keeps u [] db entry within outside = within
+purged_keeps u (name ∷ rest) db entry within outside = purged_keeps u rest (after u db (step.Purge name)) entry
+    (Contains-filter_intro (λ (r : Record). not (is_named name r)) db entry within
+    (ap not (not_named name entry (λ same. outside (subst (Contains (name ∷ rest)) (sym same) (Contains-head name rest))))))
+    (λ behind. outside (Contains-rest name rest entry.name behind))
 
 -- what is in a state that isn't present and isn't that of configuration files isn't installed
 neither_state : (state : State) → ¬ IsTrue (is_present_state state) → ¬ IsTrue (is_config_files_state state)
@@ -125,63 +125,63 @@ module _ (u : Universe) (start db : List Record) (selection : ℕ → Bool) (cha
   end = after_all u db (map step.Purge names)
 
   -- all is configured
-  configured_all : (found : Record) → Contains db found → ¬ IsUnconfigured found
-  configured_all found there is =
-      let within = record_unconfigured db found there is in
-      let least = least_group_is_there u db (unconfigured_of db) (some_length (unconfigured_of db) found.name within)
+  configured_all : (entry : Record) → Contains db entry → ¬ IsUnconfigured entry
+  configured_all entry there is =
+      let within = record_unconfigured db entry there is in
+      let least = least_group_is_there u db (unconfigured_of db) (some_length (unconfigured_of db) entry.name within)
       (unconfigured_pass u start db selection change underway none) in
       stuck least.0 least.1.group
 
-  installed_there : (found : Record) → Contains db found → IsInstalled found ⊎ IsUnconfigured found → IsInstalled found
-  installed_there found there (inl installed) = installed
-  installed_there found there (inr left) = absurd (configured_all found there left)
+  installed_there : (entry : Record) → Contains db entry → IsInstalled entry ⊎ IsUnconfigured entry → IsInstalled entry
+  installed_there entry there (inl installed) = installed
+  installed_there entry there (inr left) = absurd (configured_all entry there left)
 
   -- what is present is installed with flag ok, and is a member
-  present_member : (found : Record) → Contains db found → IsPresent found
-      → IsInstalled found × HasSoundFlag found × Contains members (pkg_of found)
-  present_member found there present =
-      let is = all_members u start members db underway none found there present in (
-        installed_there found there (stands_either found is.0),
-        stands_sound found is.0,
+  present_member : (entry : Record) → Contains db entry → IsPresent entry
+      → IsInstalled entry × HasSoundFlag entry × Contains members (pkg_of entry)
+  present_member entry there present =
+      let is = all_members u start members db underway none entry there present in (
+        installed_there entry there (stands_either entry is.0),
+        stands_sound entry is.0,
         is.1,
       )
 
   -- a record of a name that is purged was removed, and isn't held
-  purged_record : (name : List ℕ) → Contains names name → (found : Record) → Contains db found → found.name ≡ name
-      → IsRemoved found × ¬ IsHeld found
-  purged_record name within found there same =
+  purged_record : (name : List ℕ) → Contains names name → (entry : Record) → Contains db entry → entry.name ≡ name
+      → IsRemoved entry × ¬ IsHeld entry
+  purged_record name within entry there same =
       let is = (purges.each name).0 within in
-      let removed : IsRemoved found = the_record IsRemoved db underway.distinct found there (subst (λ n. HasRecord IsRemoved n db) (sym same) is.1) in (
+      let removed : IsRemoved entry = the_record IsRemoved db underway.distinct entry there (subst (λ n. HasRecord IsRemoved n db) (sym same) is.1) in (
         removed,
-        All-contains (λ (r : Record). IsRemoved r → IsPurgeGoal u r.name → ¬ IsHeld r) db found underway.unheld there removed
+        All-contains (λ (r : Record). IsRemoved r → IsPurgeGoal u r.name → ¬ IsHeld r) db entry underway.unheld there removed
             (subst (IsPurgeGoal u) (sym same) is.0),
       )
 
   -- the purges that are left are a run, while their records are there and none came
   purges_run : (rest : List (List ℕ)) (reached : List Record) → IsAscending rest → ((name : List ℕ) → Contains rest name → Contains names name)
-      → ((found : Record) → Contains reached found → Contains db found)
+      → ((entry : Record) → Contains reached entry → Contains db entry)
       → ((name : List ℕ) → Contains rest name → HasRecord IsRemoved name reached)
       → Run u reached (map step.Purge rest) (after_all u reached (map step.Purge rest))
   unfolding IsNotHeld
   purges_run [] reached rising among old there = refl
   purges_run (name ∷ rest) reached rising among old there = (
     allowed_purge u reached name (there name (Contains-head name rest)) (λ held.
-        Any-elim (λ (r : Record). (r.name ≡ name) × IsHeld r) reached ⊥ (λ found within is.
-        (purged_record name (among name (Contains-head name rest)) found (old found within) is.0).1 is.1) held),
+        Any-elim (λ (r : Record). (r.name ≡ name) × IsHeld r) reached ⊥ (λ entry within is.
+        (purged_record name (among name (Contains-head name rest)) entry (old entry within) is.0).1 is.1) held),
     purges_run rest (after u reached (step.Purge name)) (pairs_tail (λ (a b : List ℕ). name_cmp a b ≡ Less) name rest rising)
         (λ other within. among other (Contains-rest name rest other within))
-        (λ found within. old found (Contains-filter (λ (r : Record). not (is_named name r)) reached found within).0)
+        (λ entry within. old entry (Contains-filter (λ (r : Record). not (is_named name r)) reached entry within).0)
         (λ other within. Any-elim (λ (r : Record). (r.name ≡ other) × IsRemoved r) reached
         (HasRecord IsRemoved other (filter (λ (r : Record). not (is_named name r)) reached))
-        (λ found inside is. Any-intro (λ (r : Record). (r.name ≡ other) × IsRemoved r) (filter (λ (r : Record). not (is_named name r)) reached) found
-        (Contains-filter_intro (λ (r : Record). not (is_named name r)) reached found inside
-        (ap not (not_named name found (λ same. less_differ name other
+        (λ entry inside is. Any-intro (λ (r : Record). (r.name ≡ other) × IsRemoved r) (filter (λ (r : Record). not (is_named name r)) reached) entry
+        (Contains-filter_intro (λ (r : Record). not (is_named name r)) reached entry inside
+        (ap not (not_named name entry (λ same. less_differ name other
         (All-contains (λ b. name_cmp name b ≡ Less) rest other (pairs_head (λ (a b : List ℕ). name_cmp a b ≡ Less) name rest rising) within)
         (sym is.0 ∙ same))))) is) (there other (Contains-rest name rest other within))),
   )
 
   run : Run u db (map step.Purge names) end
-  run = purges_run names db purges.by_name (λ name within. within) (λ found within. within) (λ name within. ((purges.each name).0 within).1)
+  run = purges_run names db purges.by_name (λ name within. within) (λ entry within. within) (λ name within. ((purges.each name).0 within).1)
 
   -- an installed record of the end is of a member, and each member has one
   installed_member : (pkg : Pkg) → Contains (installed_of end) pkg → Contains members pkg
@@ -193,24 +193,24 @@ module _ (u : Universe) (start db : List Record) (selection : ℕ → Bool) (cha
 
   member_installed : (pkg : Pkg) → Contains members pkg → Contains (installed_of end) pkg
   member_installed pkg within =
-      let found = record_of_member u start members db underway pkg within in
-      let installed : IsInstalled found.0 = installed_there found.0 found.1 (stands_either found.0 found.2) in
-      subst (Contains (installed_of end)) found.3 (installed_contains end found.0 (purged_keeps u names db found.0 found.1 (λ among.
-      removed_uninstalled found.0.state (purged_record found.0.name among found.0 found.1 refl).0 installed)) installed)
+      let entry = record_of_member u start members db underway pkg within in
+      let installed : IsInstalled entry.0 = installed_there entry.0 entry.1 (stands_either entry.0 entry.2) in
+      subst (Contains (installed_of end)) entry.3 (installed_contains end entry.0 (purged_keeps u names db entry.0 entry.1 (λ among.
+      removed_uninstalled entry.0.state (purged_record entry.0.name among entry.0 entry.1 refl).0 installed)) installed)
 
   -- what is purged has no record with configuration files left
-  not_removed : (found : Record) → Contains end found → IsRemoved found → ¬ IsPurgeGoal u found.name
-  not_removed found within removed asked =
-      let was = purged_each u names db found within in
-      was.1 ((purges.each found.name).1 (asked, Any-intro (λ (r : Record). (r.name ≡ found.name) × IsRemoved r) db found was.0 (refl, removed)))
+  not_removed : (entry : Record) → Contains end entry → IsRemoved entry → ¬ IsPurgeGoal u entry.name
+  not_removed entry within removed asked =
+      let was = purged_each u names db entry within in
+      was.1 ((purges.each entry.name).1 (asked, Any-intro (λ (r : Record). (r.name ≡ entry.name) × IsRemoved r) db entry was.0 (refl, removed)))
 
-  finished : All (λ found. ¬ IsUnfinished found) end
-  finished = All-intro (λ (r : Record). ¬ IsUnfinished r) end (λ found within.
-      let was = purged_each u names db found within in
-      finished_state found.state found.flag
-      (λ present. let is = present_member found was.0 present in (is.0, is.1))
-      (λ removed. All-contains (λ (r : Record). IsRemoved r → ¬ IsPurgeGoal u r.name → HasSoundFlag r) db found underway.sound was.0 removed
-      (not_removed found within removed)))
+  finished : All (λ entry. ¬ IsUnfinished entry) end
+  finished = All-intro (λ (r : Record). ¬ IsUnfinished r) end (λ entry within.
+      let was = purged_each u names db entry within in
+      finished_state entry.state entry.flag
+      (λ present. let is = present_member entry was.0 present in (is.0, is.1))
+      (λ removed. All-contains (λ (r : Record). IsRemoved r → ¬ IsPurgeGoal u r.name → HasSoundFlag r) db entry underway.sound was.0 removed
+      (not_removed entry within removed)))
 
   -- what is to be purged is gone
   gone : (asked : Goal) → Contains u.goals asked → IsPurged end asked
@@ -221,10 +221,10 @@ module _ (u : Universe) (start db : List Record) (selection : ℕ → Bool) (cha
   gone goal.UpgradeAll within = tt
   gone goal.NoRemove within = tt
   gone (goal.Purge name) within = All-intro (λ (r : Record). r.name ≡ name → IsTrue (is_not_installed_state r.state)) end
-      (λ found there same. neither_state found.state
+      (λ entry there same. neither_state entry.state
       (λ present. All-contains (Fulfils u members) u.goals (goal.Purge name) change.acceptable.goals within
-      (member_named members (pkg_of found) name (present_member found (purged_each u names db found there).0 present).2 same))
-      (λ removed. not_removed found there removed (subst (λ n. Contains u.goals (goal.Purge n)) (sym same) within)))
+      (member_named members (pkg_of entry) name (present_member entry (purged_each u names db entry there).0 present).2 same))
+      (λ removed. not_removed entry there removed (subst (λ n. Contains u.goals (goal.Purge n)) (sym same) within)))
 
   just : HasJust members end
   unfolding HasJust

@@ -22,12 +22,12 @@ use Rattle.plain.specs.PhaseLaws.{DeconfigureLeaves, RemovalLeaves, LastRemovalI
 use Rattle.plain.specs.Order.{MayGo, IsStillInstalled}
 use Rattle.plain.specs.Underway.{IsFree, IsUnderway, is_member, is_to_remove, steps_for, removals_left}
 use Rattle.plain.proofs.ChangedLemmas.{Any-behind, changed_each, changed_keeps, named_not, not_named}
-use Rattle.plain.proofs.PeaceLemmas.{installed_present}
+use Rattle.plain.proofs.ClashLemmas.{installed_present}
 use Rattle.plain.proofs.UnderwayLemmas.{dec_HasMember, member_named, named, member_record, record_of_member, free_record, underway_changed}
 use mathlib.Core.Logic.{inl, inr}
 
 -- a removal that keeps its rules is allowed
-allowed_remove : (u : Universe) (db : List Record) (name : List ℕ) → HasRecord (λ found. IsPresent found × HasSoundFlag found) name db
+allowed_remove : (u : Universe) (db : List Record) (name : List ℕ) → HasRecord (λ entry. IsPresent entry × HasSoundFlag entry) name db
     → IsNotHeld db name → ¬ HasRecord IsEssential name db → IsNotNeeded db name → Allowed u db (step.Remove name)
 unfolding Allowed
 allowed_remove u db name there unheld inessential unneeded =
@@ -46,30 +46,30 @@ allowed_deconfigure u db name there =
 module _ (u : Universe) (start : List Record) (members : List Pkg) (db : List Record) (underway : IsUnderway u start members db)
     (name : List ℕ) (goes : IsToRemove members db name) where
   -- the record of a name to be removed is present, and may go
-  gone_present : (found : Record) → Contains db found → found.name ≡ name → IsPresent found
-  gone_present found there same = the_record IsPresent db underway.distinct found there
+  gone_present : (entry : Record) → Contains db entry → entry.name ≡ name → IsPresent entry
+  gone_present entry there same = the_record IsPresent db underway.distinct entry there
       (subst (λ n. HasRecord IsPresent n db) (sym same) goes.0)
 
-  gone_free : (found : Record) → Contains db found → found.name ≡ name → IsFree start members found
-  gone_free found there same = free_record u start members db underway found there (gone_present found there same)
+  gone_free : (entry : Record) → Contains db entry → entry.name ≡ name → IsFree start members entry
+  gone_free entry there same = free_record u start members db underway entry there (gone_present entry there same)
       (λ has. goes.1 (subst (λ n. HasMember n members) same has))
 
   -- no member has the name
   no_member : (pkg : Pkg) → Contains members pkg → pkg.name ≢ name
   no_member pkg within same = goes.1 (member_named members pkg name within same)
 
-  present_sound : HasRecord (λ found. IsPresent found × HasSoundFlag found) name db
+  present_sound : HasRecord (λ entry. IsPresent entry × HasSoundFlag entry) name db
   present_sound = Any-weaker (λ (r : Record). (r.name ≡ name) × IsPresent r) (λ (r : Record). (r.name ≡ name) × (IsPresent r × HasSoundFlag r)) db
-      (λ found there is. (is.0, (is.1, (gone_free found there is.0).sound))) goes.0
+      (λ entry there is. (is.0, (is.1, (gone_free entry there is.0).sound))) goes.0
 
   not_held : IsNotHeld db name
   unfolding IsNotHeld
   not_held held = Any-elim (λ (r : Record). (r.name ≡ name) × IsHeld r) db ⊥
-      (λ found there is. (gone_free found there is.0).unheld is.1) held
+      (λ entry there is. (gone_free entry there is.0).unheld is.1) held
 
   not_essential : ¬ HasRecord IsEssential name db
   not_essential essential = Any-elim (λ (r : Record). (r.name ≡ name) × IsEssential r) db ⊥
-      (λ found there is. (gone_free found there is.0).inessential is.1) essential
+      (λ entry there is. (gone_free entry there is.0).inessential is.1) essential
 
   -- a clause that the members meet is met without the name
   met_without : (gone : Record) → gone.name ≡ name → (clause : List Atom) → MeetsClause members clause → IsMetWithout db gone clause
@@ -77,10 +77,10 @@ module _ (u : Universe) (start : List Record) (members : List Pkg) (db : List Re
   met_without gone same clause met matches = Any-elim (λ (m : Pkg). MatchesSome m clause) members
       (Any (λ (r : Record). (r.name ≢ gone.name) × (Stands r × MatchesSome (pkg_of r) clause)) db)
       (λ pkg within fits.
-      let found = record_of_member u start members db underway pkg within in
-      Any-intro (λ (r : Record). (r.name ≢ gone.name) × (Stands r × MatchesSome (pkg_of r) clause)) db found.0 found.1 (
-        (λ alike. no_member pkg within (sym (named found.0 pkg found.3) ∙ alike ∙ same)),
-        (found.2, subst (λ (p : Pkg). MatchesSome p clause) (sym found.3) fits),
+      let entry = record_of_member u start members db underway pkg within in
+      Any-intro (λ (r : Record). (r.name ≢ gone.name) × (Stands r × MatchesSome (pkg_of r) clause)) db entry.0 entry.1 (
+        (λ alike. no_member pkg within (sym (named entry.0 pkg entry.3) ∙ alike ∙ same)),
+        (entry.2, subst (λ (p : Pkg). MatchesSome p clause) (sym entry.3) fits),
       )) met
 
   -- a record of a member needs no package of the name
@@ -129,16 +129,16 @@ removals_go_on u start db selection name change underway goes = at (dec_still_in
   where
     still : (other : List ℕ) → IsStillInstalled (selected u selection) db other → Any (λ (r : Record). IsInstalled r × ¬ HasMember r.name (selected u selection)) db
     still other is = Any-weaker (λ (r : Record). (r.name ≡ other) × IsInstalled r) (λ (r : Record). IsInstalled r × ¬ HasMember r.name (selected u selection)) db
-        (λ found there here. (here.1, λ has. is.0.1 (subst (λ n. HasMember n (selected u selection)) here.0 has))) is.1
+        (λ entry there here. (here.1, λ has. is.0.1 (subst (λ n. HasMember n (selected u selection)) here.0 has))) is.1
 
     at : Dec (Any (λ (r : Record). IsInstalled r × ¬ HasMember r.name (selected u selection)) db)
         → ((other : List ℕ) × MayGo u (selected u selection) db other) ⊎ ((other : List ℕ) × IsStillInstalled (selected u selection) db other)
     at (yes some) = inr (Any-elim (λ (r : Record). IsInstalled r × ¬ HasMember r.name (selected u selection)) db
-        ((other : List ℕ) × IsStillInstalled (selected u selection) db other) (λ found there is. (
-          found.name,
+        ((other : List ℕ) × IsStillInstalled (selected u selection) db other) (λ entry there is. (
+          entry.name,
           (
-            (Any-intro (λ (r : Record). (r.name ≡ found.name) × IsPresent r) db found there (refl, installed_present found.state is.0), is.1),
-            Any-intro (λ (r : Record). (r.name ≡ found.name) × IsInstalled r) db found there (refl, is.0),
+            (Any-intro (λ (r : Record). (r.name ≡ entry.name) × IsPresent r) db entry there (refl, installed_present entry.state is.0), is.1),
+            Any-intro (λ (r : Record). (r.name ≡ entry.name) × IsInstalled r) db entry there (refl, is.0),
           ),
         )) some)
     at (no none) = inl (
@@ -177,16 +177,16 @@ no_more_left members test change (first ∷ rest) less = at (test first) refl
 
 fewer_left : (members : List Pkg) (test : Record → Bool) (change : Record → Record) (db : List Record)
     → ((old : Record) → Contains db old → test old ≡ true → steps_for members (change old) < steps_for members old)
-    → (found : Record) → Contains db found → test found ≡ true
+    → (entry : Record) → Contains db entry → test entry ≡ true
     → removals_left members (changed test change db) < removals_left members db
-fewer_left members test change [] less found there passes = absurd (Contains-nil found there)
-fewer_left members test change (first ∷ rest) less found there passes = at (Contains-cons first rest found there) (test first) refl
+fewer_left members test change [] less entry there passes = absurd (Contains-nil entry there)
+fewer_left members test change (first ∷ rest) less entry there passes = at (Contains-cons first rest entry there) (test first) refl
     (no_more_left members test change rest (λ old behind. less old (Contains-rest first rest old behind)))
-    (λ behind. fewer_left members test change rest (λ old further. less old (Contains-rest first rest old further)) found behind passes)
+    (λ behind. fewer_left members test change rest (λ old further. less old (Contains-rest first rest old further)) entry behind passes)
   where
-    at : (first ≡ found) ⊎ Contains rest found → (b : Bool) → test first ≡ b
+    at : (first ≡ entry) ⊎ Contains rest entry → (b : Bool) → test first ≡ b
         → removals_left members (changed test change rest) ≤ removals_left members rest
-        → (Contains rest found → removals_left members (changed test change rest) < removals_left members rest)
+        → (Contains rest entry → removals_left members (changed test change rest) < removals_left members rest)
         → steps_for members (cond b (change first) first) + removals_left members (changed test change rest)
         < steps_for members first + removals_left members rest
     at (inl same) false is below later = absurd (let e : true ≡ false = sym passes ∙ ap test (sym same) ∙ is in cc)
@@ -197,14 +197,14 @@ fewer_left members test change (first ∷ rest) less found there passes = at (Co
 module _ (u : Universe) (start : List Record) (members : List Pkg) (db : List Record) (underway : IsUnderway u start members db)
     (name : List ℕ) (goes : IsToRemove members db name) where
   -- a record that has the name
-  here : (found : Record) → is_named name found ≡ true → found.name ≡ name
-  here found is = bytes_eq-true found.name name is
+  here : (entry : Record) → is_named name entry ≡ true → entry.name ≡ name
+  here entry is = bytes_eq-true entry.name name is
 
-  no_member_here : (found : Record) → is_named name found ≡ true → ¬ HasMember found.name members
-  no_member_here found is has = goes.1 (subst (λ n. HasMember n members) (here found is) has)
+  no_member_here : (entry : Record) → is_named name entry ≡ true → ¬ HasMember entry.name members
+  no_member_here entry is has = goes.1 (subst (λ n. HasMember n members) (here entry is) has)
 
-  free_here : (found : Record) → Contains db found → is_named name found ≡ true → IsFree start members found
-  free_here found there is = gone_free u start members db underway name goes found there (here found is)
+  free_here : (entry : Record) → Contains db entry → is_named name entry ≡ true → IsFree start members entry
+  free_here entry there is = gone_free u start members db underway name goes entry there (here entry is)
 
   removed_underway : IsUnderway u start members (changed (is_named name) removed db)
   removed_underway = underway_changed u start members db underway (is_named name) removed
@@ -247,27 +247,27 @@ module _ (u : Universe) (start : List Record) (members : List Pkg) (db : List Re
       omega arith
 
   -- there is a record of the name
-  pub some_record : (found : Record) × Contains db found × (is_named name found ≡ true)
+  pub some_record : (entry : Record) × Contains db entry × (is_named name entry ≡ true)
   some_record = Any-elim (λ (r : Record). (r.name ≡ name) × IsPresent r) db
-      ((found : Record) × Contains db found × (is_named name found ≡ true))
-      (λ found there is. (found, there, bytes_eq-same found.name name is.0)) goes.0
+      ((entry : Record) × Contains db entry × (is_named name entry ≡ true))
+      (λ entry there is. (entry, there, bytes_eq-same entry.name name is.0)) goes.0
 
 pub removals_are_allowed : RemovalsAreAllowed
 removals_are_allowed u start db members (step.Unpack name version) underway next = absurd next
 removals_are_allowed u start db members (step.Configure names) underway next = absurd next
 removals_are_allowed u start db members (step.Purge name) underway next = absurd next
 removals_are_allowed u start db members (step.Deconfigure name) underway next =
-    let found = some_record u start members db underway name next.1.has.0 in (
+    let entry = some_record u start members db underway name next.1.has.0 in (
       allowed_deconfigure u db name next.1.has.1,
       deconfigured_underway u start members db underway name next.1.has.0,
       fewer_left members (is_named name) deconfigured db
-          (deconfigured_less u start members db underway name next.1.has.0 next.1.has.1) found.0 found.1 found.2,
+          (deconfigured_less u start members db underway name next.1.has.0 next.1.has.1) entry.0 entry.1 entry.2,
     )
 removals_are_allowed u start db members (step.Remove name) underway next =
-    let found = some_record u start members db underway name next.has.0 in (
+    let entry = some_record u start members db underway name next.has.0 in (
       next.has.1,
       removed_underway u start members db underway name next.has.0,
-      fewer_left members (is_named name) removed db (removed_less u start members db underway name next.has.0) found.0 found.1 found.2,
+      fewer_left members (is_named name) removed db (removed_less u start members db underway name next.has.0) entry.0 entry.1 entry.2,
     )
 
 -- What is left to be removed
@@ -278,12 +278,12 @@ present_before : (test : Record → Bool) (change : Record → Record) (db : Lis
     → ((old : Record) → Contains db old → test old ≡ true → IsPresent (change old) → IsPresent old)
     → HasRecord IsPresent name (changed test change db) → HasRecord IsPresent name db
 present_before test change db name names before has = Any-elim (λ (r : Record). (r.name ≡ name) × IsPresent r) (changed test change db)
-    (HasRecord IsPresent name db) (λ found there is. elim (changed_each test change db found there) [
+    (HasRecord IsPresent name db) (λ entry there is. elim (changed_each test change db entry there) [
       | inl made ↦ Any-intro (λ (r : Record). (r.name ≡ name) × IsPresent r) db made.0 made.1 (
         sym (names made.0) ∙ ap (λ (r : Record). r.name) made.3 ∙ is.0,
         before made.0 made.1 made.2 (subst (λ (r : Record). IsPresent r) (sym made.3) is.1),
       )
-      | inr left ↦ Any-intro (λ (r : Record). (r.name ≡ name) × IsPresent r) db found left.0 is
+      | inr left ↦ Any-intro (λ (r : Record). (r.name ≡ name) × IsPresent r) db entry left.0 is
     ]) has
 
 pub removal_leaves : RemovalLeaves
@@ -291,8 +291,8 @@ removal_leaves u members db name other = (
   λ goes. ((before goes.0, goes.1), λ same. differs same goes.0),
   λ goes. (
     Any-elim (λ (r : Record). (r.name ≡ other) × IsPresent r) db (HasRecord IsPresent other (changed (is_named name) removed db))
-        (λ found there is. Any-intro (λ (r : Record). (r.name ≡ other) × IsPresent r) (changed (is_named name) removed db) found
-        (changed_keeps (is_named name) removed db found there (not_named name found (λ same. goes.1 (sym is.0 ∙ same)))) is) goes.0.0,
+        (λ entry there is. Any-intro (λ (r : Record). (r.name ≡ other) × IsPresent r) (changed (is_named name) removed db) entry
+        (changed_keeps (is_named name) removed db entry there (not_named name entry (λ same. goes.1 (sym is.0 ∙ same)))) is) goes.0.0,
     goes.0.1,
   ),
 )
@@ -302,9 +302,9 @@ removal_leaves u members db name other = (
 
     differs : other ≡ name → HasRecord IsPresent other (changed (is_named name) removed db) → ⊥
     differs same has = Any-elim (λ (r : Record). (r.name ≡ other) × IsPresent r) (changed (is_named name) removed db) ⊥
-        (λ found there is. elim (changed_each (is_named name) removed db found there) [
+        (λ entry there is. elim (changed_each (is_named name) removed db entry there) [
           | inl made ↦ absurd (let e : false ≡ true = subst (λ (r : Record). IsPresent r) (sym made.3) is.1 in cc)
-          | inr left ↦ named_not name found left.1 (is.0 ∙ same)
+          | inr left ↦ named_not name entry left.1 (is.0 ∙ same)
         ]) has
 
 pub deconfigure_leaves : DeconfigureLeaves
@@ -316,8 +316,8 @@ deconfigure_leaves u members db name other distinct has = (
       (behind still.0.0.0, still.0.0.1),
       Any-elim (λ (r : Record). (r.name ≡ other) × IsInstalled r) db
           (HasRecord IsInstalled other (changed (is_named name) deconfigured db))
-          (λ found there is. Any-intro (λ (r : Record). (r.name ≡ other) × IsInstalled r) (changed (is_named name) deconfigured db) found
-          (changed_keeps (is_named name) deconfigured db found there (not_named name found (λ same. still.1 (sym is.0 ∙ same)))) is) still.0.1,
+          (λ entry there is. Any-intro (λ (r : Record). (r.name ≡ other) × IsInstalled r) (changed (is_named name) deconfigured db) entry
+          (changed_keeps (is_named name) deconfigured db entry there (not_named name entry (λ same. still.1 (sym is.0 ∙ same)))) is) still.0.1,
     ),
   ),
 )
@@ -328,15 +328,15 @@ deconfigure_leaves u members db name other distinct has = (
 
     behind : HasRecord IsPresent other db → HasRecord IsPresent other (changed (is_named name) deconfigured db)
     behind goes = Any-elim (λ (r : Record). (r.name ≡ other) × IsPresent r) db (HasRecord IsPresent other (changed (is_named name) deconfigured db))
-        (λ found there is. Any-behind (λ (r : Record). (r.name ≡ other) × IsPresent r) (is_named name) deconfigured db found there is
+        (λ entry there is. Any-behind (λ (r : Record). (r.name ≡ other) × IsPresent r) (is_named name) deconfigured db entry there is
         (λ passes. (is.0, refl))) goes
 
     still_before : HasRecord IsInstalled other (changed (is_named name) deconfigured db) → HasRecord IsInstalled other db × (other ≢ name)
     still_before still = Any-elim (λ (r : Record). (r.name ≡ other) × IsInstalled r) (changed (is_named name) deconfigured db)
-        (HasRecord IsInstalled other db × (other ≢ name)) (λ found there is. elim (changed_each (is_named name) deconfigured db found there) [
+        (HasRecord IsInstalled other db × (other ≢ name)) (λ entry there is. elim (changed_each (is_named name) deconfigured db entry there) [
           | inl made ↦ absurd (let e : false ≡ true = subst (λ (r : Record). IsInstalled r) (sym made.3) is.1 in cc)
           | inr left ↦ (
-            Any-intro (λ (r : Record). (r.name ≡ other) × IsInstalled r) db found left.0 is,
-            λ same. named_not name found left.1 (is.0 ∙ same),
+            Any-intro (λ (r : Record). (r.name ≡ other) × IsInstalled r) db entry left.0 is,
+            λ same. named_not name entry left.1 (is.0 ∙ same),
           )
         ]) still

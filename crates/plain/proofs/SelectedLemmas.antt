@@ -38,9 +38,9 @@ members_rise number selection (pair ∷ rest) rising = at (selection number)
   where
     before : (pkg : Pkg) → Contains (selected_from (number + 1) selection rest) pkg → IsBefore pair.pkg pkg
     before pkg within =
-        let found = picked_from (number + 1) selection rest pkg within in
-        subst (IsBefore pair.pkg) found.2 (All-contains (λ (b : Pair). pair_cmp pair b ≡ Less) rest found.0
-        (pairs_head (λ (a b : Pair). pair_cmp a b ≡ Less) pair rest rising) found.1)
+        let its_pair = picked_from (number + 1) selection rest pkg within in
+        subst (IsBefore pair.pkg) its_pair.2 (All-contains (λ (b : Pair). pair_cmp pair b ≡ Less) rest its_pair.0
+        (pairs_head (λ (a b : Pair). pair_cmp a b ≡ Less) pair rest rising) its_pair.1)
 
     at : (b : Bool) → AllPairs IsBefore (selected_from (number + 1) selection rest) → AllPairs IsBefore
         (cond b (pair.pkg ∷ selected_from (number + 1) selection rest) (selected_from (number + 1) selection rest))
@@ -61,17 +61,17 @@ before_by_name pkg other agrees before = at (name_cmp pkg.name other.name) refl 
 
 -- the test of the record that stands in the version
 abbrev is_it : Pkg → Record → Bool
-is_it pkg found = is_named pkg.name found && stands found && same_version found.version pkg.version
+is_it pkg entry = is_named pkg.name entry && stands entry && same_version entry.version pkg.version
 
 -- the version stands where the test finds a record, and only there
 pub none_stands : (start : List Record) (pkg : Pkg) → ¬ StandsAs start pkg.name pkg.version
     → not (is_some (standing_record start pkg.name pkg.version)) ≡ true
 unfolding StandsAs
-none_stands start pkg none = ap (λ (o : Option Record). not (is_some o)) (find_nothing (is_it pkg) start (λ found there passes.
-    let one_ = both_true (is_named pkg.name found && stands found) (same_version found.version pkg.version) passes in
-    let two = both_true (is_named pkg.name found) (stands found) one_.0 in
-    none (Any-intro (λ (r : Record). (r.name ≡ pkg.name) × (Stands r × SameVersion r.version pkg.version)) start found there
-    (bytes_eq-true found.name pkg.name two.0, (two.1, (Equal-is (version_cmp found.version pkg.version)).0 one_.1)))))
+none_stands start pkg none = ap (λ (o : Option Record). not (is_some o)) (find_nothing (is_it pkg) start (λ entry there passes.
+    let one_ = both_true (is_named pkg.name entry && stands entry) (same_version entry.version pkg.version) passes in
+    let two = both_true (is_named pkg.name entry) (stands entry) one_.0 in
+    none (Any-intro (λ (r : Record). (r.name ≡ pkg.name) × (Stands r × SameVersion r.version pkg.version)) start entry there
+    (bytes_eq-true entry.name pkg.name two.0, (two.1, (Equal-is (version_cmp entry.version pkg.version)).0 one_.1)))))
 
 -- where an element passes, one is found
 finds : {X : Type 0} (p : X → Bool) (xs : List X) (x : X) → Contains xs x → p x ≡ true → is_some (find p xs) ≡ true
@@ -88,9 +88,9 @@ pub some_stands : (start : List Record) (pkg : Pkg) → not (is_some (standing_r
     → ¬ StandsAs start pkg.name pkg.version
 unfolding StandsAs
 some_stands start pkg fails stands = Any-elim (λ (r : Record). (r.name ≡ pkg.name) × (Stands r × SameVersion r.version pkg.version)) start ⊥
-    (λ found there is.
-    let passes : is_it pkg found ≡ true = rw (bytes_eq-same found.name pkg.name is.0, is.1.0) ((Equal-is (version_cmp found.version pkg.version)).1 is.1.1) in
-    let e : not true ≡ true = subst (λ b. not b ≡ true) (finds (is_it pkg) start found there passes) fails in absurd (cc)) stands
+    (λ entry there is.
+    let passes : is_it pkg entry ≡ true = rw (bytes_eq-same entry.name pkg.name is.0, is.1.0) ((Equal-is (version_cmp entry.version pkg.version)).1 is.1.1) in
+    let e : not true ≡ true = subst (λ b. not b ≡ true) (finds (is_it pkg) start entry there passes) fails in absurd (cc)) stands
 
 pub members_are_by_name : MembersAreByName
 unfolding IsAcceptable HasOneVersionEach selected

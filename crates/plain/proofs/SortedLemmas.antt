@@ -190,7 +190,7 @@ module _ (IsBefore : Name → Name → Type 0) (either : (name other : Name) →
       at : Dec (Any P rest)
           → (Any P rest → (name : Name) × P name × ((other : Name) → Contains rest other → P other → ¬ IsBefore other name))
           → (name : Name) × P name × ((other : Name) → Contains (first ∷ rest) other → P other → ¬ IsBefore other name)
-      at (yes behind) later = let found = later behind in joined found.0 found.1 found.2 (each first)
+      at (yes behind) later = let of_rest = later behind in joined of_rest.0 of_rest.1 of_rest.2 (each first)
       at (no none) later = (
         first,
         Any-elim P (first ∷ rest) (P first) (λ name within has. elim (Contains-cons first rest name within) [

@@ -35,7 +35,7 @@ use Rattle.plain.specs.Underway.{HasOldAndNew, IsFree, IsUnderway}
 use Rattle.plain.proofs.ChangedLemmas.{IsUnpackedAs, unpacked_stands, after_unpack_each, after_unpack_keeps, after_unpack_has}
 use Rattle.rules.proofs.Rising.{pairs_head, pairs_tail}
 use Rattle.plain.proofs.MemberLemmas.{one_member, standing_record_of, staying_record_of, staying_stands, not_to_unpack, listed_package}
-use Rattle.plain.proofs.PeaceLemmas.{nothing_clashes, old_one, new_one}
+use Rattle.plain.proofs.ClashLemmas.{nothing_clashes, old_one, new_one}
 use Rattle.plain.proofs.UnderwayLemmas.{named}
 use mathlib.Core.Logic.{inl, inr}
 
@@ -45,8 +45,8 @@ allowed_unpack : (u : Universe) (db : List Record) (name version : List ℕ) (li
     → HasPreDepends db listed.pkg → HasNoConflict db listed.pkg → BreaksNone db listed.pkg
     → Allowed u db (step.Unpack name version)
 unfolding Allowed
-allowed_unpack u db name version listed found unheld new pre_depends apart breaks =
-    subst (λ (o : Option IndexPackage). All (UnpackAsks o db name version) unpack_rules) (sym found)
+allowed_unpack u db name version listed is_listed unheld new pre_depends apart breaks =
+    subst (λ (o : Option IndexPackage). All (UnpackAsks o db name version) unpack_rules) (sym is_listed)
     (All-cons asks rule.NotAdmitted (rule.Held ∷ rule.WrongState ∷ rule.PreDepends ∷ rule.Conflict ∷ rule.Breaks ∷ []) refl
     (All-cons asks rule.Held (rule.WrongState ∷ rule.PreDepends ∷ rule.Conflict ∷ rule.Breaks ∷ []) unheld
     (All-cons asks rule.WrongState (rule.PreDepends ∷ rule.Conflict ∷ rule.Breaks ∷ []) new
@@ -61,8 +61,8 @@ allowed_unpack u db name version listed found unheld new pre_depends apart break
 -- there as it was; and what is to be unpacked is left or has been
 record IsUnpacking (start : List Record) (members rest : List Pkg) (db : List Record) : Type 0 where
   pub distinct : HasDistinctNames db
-  pub each : (found : Record) → Contains db found → Contains start found
-      ⊎ ((pkg : Pkg) × IsUnpackedAs pkg found × Contains members pkg × All (λ later. later.name ≢ pkg.name) rest)
+  pub each : (entry : Record) → Contains db entry → Contains start entry
+      ⊎ ((pkg : Pkg) × IsUnpackedAs pkg entry × Contains members pkg × All (λ later. later.name ≢ pkg.name) rest)
   pub kept : (old : Record) → Contains start old → ((pkg : Pkg) → IsToUnpack start members pkg → pkg.name ≢ old.name)
       → Contains db old
   pub done : (pkg : Pkg) → IsToUnpack start members pkg → Contains rest pkg ⊎ HasRecord (IsUnpackedAs pkg) pkg.name db
@@ -73,13 +73,13 @@ less_differ name other below same =
     let e : Less ≡ Equal = sym below ∙ subst (λ n. name_cmp name n ≡ Equal) (sym same) (tied_itself nat_list_cmp_total name) in absurd (cc)
 
 -- what is unpacked isn't in another state
-unpacked_isnt : (test : State → Bool) → test Unpacked ≡ false → (pkg : Pkg) (found : Record) → IsUnpackedAs pkg found
-    → ¬ IsTrue (test found.state)
-unpacked_isnt test fails pkg found as_it is = absurd (let e : true ≡ false = sym is ∙ ap test as_it.state ∙ fails in cc)
+unpacked_isnt : (test : State → Bool) → test Unpacked ≡ false → (pkg : Pkg) (entry : Record) → IsUnpackedAs pkg entry
+    → ¬ IsTrue (test entry.state)
+unpacked_isnt test fails pkg entry as_it is = absurd (let e : true ≡ false = sym is ∙ ap test as_it.state ∙ fails in cc)
 
 -- what stands has flag ok
-pub stands_sound : (found : Record) → Stands found → HasSoundFlag found
-stands_sound found is = (both_true (is_unconfigured_state found.state || is_installed_state found.state) (is_sound_flag found.flag) is).1
+pub stands_sound : (entry : Record) → Stands entry → HasSoundFlag entry
+stands_sound entry is = (both_true (is_unconfigured_state entry.state || is_installed_state entry.state) (is_sound_flag entry.flag) is).1
 
 module _ (u : Universe) (start : List Record) (selection : ℕ → Bool) (change : IsPlainChange u start selection) where
   abbrev members : List Pkg
@@ -87,37 +87,37 @@ module _ (u : Universe) (start : List Record) (selection : ℕ → Bool) (change
 
   -- a member that stands at the start is there while unpacks are left
   stays_there : (rest : List Pkg) (db : List Record) → IsUnpacking start members rest db → (pkg : Pkg) → Contains members pkg
-      → StandsAs start pkg.name pkg.version → (found : Record) → Contains start found → pkg_of found ≡ pkg → Contains db found
-  stays_there rest db unpacking pkg within stands found there same = unpacking.kept found there (λ other unpack names.
-      not_to_unpack u start selection change pkg within stands other unpack (names ∙ named found pkg same))
+      → StandsAs start pkg.name pkg.version → (entry : Record) → Contains start entry → pkg_of entry ≡ pkg → Contains db entry
+  stays_there rest db unpacking pkg within stands entry there same = unpacking.kept entry there (λ other unpack names.
+      not_to_unpack u start selection change pkg within stands other unpack (names ∙ named entry pkg same))
 
   -- the database has old and new packages alone
   old_and_new_there : (rest : List Pkg) (db : List Record) → IsUnpacking start members rest db → HasOldAndNew start members db
   unfolding HasOldAndNew
-  old_and_new_there rest db unpacking = All-intro (λ (r : Record). IsPresent r → Contains (old_and_new start members) (pkg_of r)) db (λ found within present. elim (unpacking.each found within) [
-    | inl from ↦ old_one start members found from present
-    | inr made ↦ new_one start members (pkg_of found) (subst (Contains members) (sym made.1.same) made.2)
+  old_and_new_there rest db unpacking = All-intro (λ (r : Record). IsPresent r → Contains (old_and_new start members) (pkg_of r)) db (λ entry within present. elim (unpacking.each entry within) [
+    | inl from ↦ old_one start members entry from present
+    | inr made ↦ new_one start members (pkg_of entry) (subst (Contains members) (sym made.1.same) made.2)
   ])
 
   module _ (pkg : Pkg) (rest : List Pkg) (db : List Record) (unpacking : IsUnpacking start members (pkg ∷ rest) db)
       (unpack : IsToUnpack start members pkg) where
     not_held : IsNotHeld db pkg.name
     unfolding IsNotHeld
-    not_held held = Any-elim (λ (r : Record). (r.name ≡ pkg.name) × IsHeld r) db ⊥ (λ found within is.
-        elim (unpacking.each found within) [
+    not_held held = Any-elim (λ (r : Record). (r.name ≡ pkg.name) × IsHeld r) db ⊥ (λ entry within is.
+        elim (unpacking.each entry within) [
           | inl from ↦ change.plain.unpacked_unheld pkg unpack
-              (Any-intro (λ (r : Record). (r.name ≡ pkg.name) × IsHeld r) start found from is)
+              (Any-intro (λ (r : Record). (r.name ≡ pkg.name) × IsHeld r) start entry from is)
           | inr made ↦ made.1.unheld is.1
         ]) held
 
     not_standing : ¬ StandsAs db pkg.name pkg.version
     unfolding StandsAs
     not_standing stands = Any-elim (λ (r : Record). (r.name ≡ pkg.name) × (Stands r × SameVersion r.version pkg.version)) db ⊥
-        (λ found within is. elim (unpacking.each found within) [
+        (λ entry within is. elim (unpacking.each entry within) [
           | inl from ↦ unpack.1 (Any-intro (λ (r : Record). (r.name ≡ pkg.name) × (Stands r × SameVersion r.version pkg.version)) start
-              found from is)
+              entry from is)
           | inr made ↦ All-head (λ (later : Pkg). later.name ≢ made.0.name) pkg rest made.3
-              (sym is.0 ∙ named found made.0 made.1.same)
+              (sym is.0 ∙ named entry made.0 made.1.same)
         ]) stands
 
     -- a clause that a staying member meets is satisfied
@@ -125,13 +125,13 @@ module _ (u : Universe) (start : List Record) (selection : ℕ → Bool) (change
     unfolding IsMetByStaying IsSatisfied SatisfiesAtom MatchesSome Matches
     satisfied clause met = Any-elim (λ (other : Pkg). (other.name ≢ pkg.name) × Stays start other × Any (Matches other) clause) members
         (IsSatisfied db pkg.name clause) (λ other there is.
-        let found = staying_record_of u start selection change other there is.1 in
+        let entry = staying_record_of u start selection change other there is.1 in
         let within = stays_there (pkg ∷ rest) db unpacking other there
-        (staying_stands u start selection change other there is.1) found.0 found.1 found.4 in
+        (staying_stands u start selection change other there is.1) entry.0 entry.1 entry.4 in
         Any-weaker (Matches other) (λ atom. Any (λ (r : Record). (r.name ≢ pkg.name) × SatisfiesAtom r atom) db) clause
-        (λ atom inside matches. Any-intro (λ (r : Record). (r.name ≢ pkg.name) × SatisfiesAtom r atom) db found.0 within (
-          (λ same. is.0 (sym (named found.0 other found.4) ∙ same)),
-          (matches.0, inl (found.2, subst (λ (p : Pkg). Matches p atom) (sym found.4) matches)),
+        (λ atom inside matches. Any-intro (λ (r : Record). (r.name ≢ pkg.name) × SatisfiesAtom r atom) db entry.0 within (
+          (λ same. is.0 (sym (named entry.0 other entry.4) ∙ same)),
+          (matches.0, inl (entry.2, subst (λ (p : Pkg). Matches p atom) (sym entry.4) matches)),
         )) is.2) met
 
     pre_depends : HasPreDepends db pkg
@@ -158,20 +158,20 @@ module _ (u : Universe) (start : List Record) (selection : ℕ → Bool) (change
         listed : (listed : IndexPackage) × (listed_of u pkg.name pkg.version ≡ Some listed) × (listed.pkg ≡ pkg)
         listed = listed_package u start selection change pkg unpack
 
-        made_of : (found : Record) → IsUnpackedAs listed.0.pkg found → IsUnpackedAs pkg found
-        made_of found as_it = subst (λ p. IsUnpackedAs p found) listed.2 as_it
+        made_of : (entry : Record) → IsUnpackedAs listed.0.pkg entry → IsUnpackedAs pkg entry
+        made_of entry as_it = subst (λ p. IsUnpackedAs p entry) listed.2 as_it
 
-        each : (found : Record) → Contains (after_unpack listed.0 db) found → Contains start found
-            ⊎ ((other : Pkg) × IsUnpackedAs other found × Contains members other × All (λ later. later.name ≢ other.name) rest)
-        each found within = elim (after_unpack_each listed.0 db found within) [
+        each : (entry : Record) → Contains (after_unpack listed.0 db) entry → Contains start entry
+            ⊎ ((other : Pkg) × IsUnpackedAs other entry × Contains members other × All (λ later. later.name ≢ other.name) rest)
+        each entry within = elim (after_unpack_each listed.0 db entry within) [
           | inl as_it ↦ inr (
             pkg,
-            made_of found as_it,
+            made_of entry as_it,
             unpack.0,
             All-weaker (λ (later : Pkg). name_cmp pkg.name later.name ≡ Less) (λ (later : Pkg). later.name ≢ pkg.name)
                 (λ later below. less_differ pkg.name later.name below) rest above,
           )
-          | inr old ↦ elim (unpacking.each found old.0) [
+          | inr old ↦ elim (unpacking.each entry old.0) [
             | inl from ↦ inl from
             | inr made ↦ inr (made.0, made.1, made.2, All-tail (λ (later : Pkg). later.name ≢ made.0.name) pkg rest made.3)
           ]
@@ -184,16 +184,16 @@ module _ (u : Universe) (start : List Record) (selection : ℕ → Bool) (change
 
         has : HasRecord (IsUnpackedAs pkg) pkg.name (after_unpack listed.0 db)
         has = Any-weaker (IsUnpackedAs listed.0.pkg) (λ (r : Record). (r.name ≡ pkg.name) × IsUnpackedAs pkg r) (after_unpack listed.0 db)
-            (λ found within as_it. (named found pkg (made_of found as_it).same, made_of found as_it)) (after_unpack_has listed.0 db)
+            (λ entry within as_it. (named entry pkg (made_of entry as_it).same, made_of entry as_it)) (after_unpack_has listed.0 db)
 
         still : (other : Pkg) → IsToUnpack start members other → HasRecord (IsUnpackedAs other) other.name db
             → Dec (other.name ≡ pkg.name) → HasRecord (IsUnpackedAs other) other.name (after_unpack listed.0 db)
         still other also before (yes same) = subst (λ (p : Pkg). HasRecord (IsUnpackedAs p) p.name (after_unpack listed.0 db))
             (sym (one_member u start selection change pkg other unpack.0 also.0 same)) has
         still other also before (no differ) = Any-elim (λ (r : Record). (r.name ≡ other.name) × IsUnpackedAs other r) db
-            (HasRecord (IsUnpackedAs other) other.name (after_unpack listed.0 db)) (λ found within is.
-            Any-intro (λ (r : Record). (r.name ≡ other.name) × IsUnpackedAs other r) (after_unpack listed.0 db) found
-            (after_unpack_keeps listed.0 db found within
+            (HasRecord (IsUnpackedAs other) other.name (after_unpack listed.0 db)) (λ entry within is.
+            Any-intro (λ (r : Record). (r.name ≡ other.name) × IsUnpackedAs other r) (after_unpack listed.0 db) entry
+            (after_unpack_keeps listed.0 db entry within
             (λ same. differ (sym is.0 ∙ same ∙ ap (λ (p : Pkg). p.name) listed.2))) is) before
 
         done : (other : Pkg) → IsToUnpack start members other
@@ -231,46 +231,46 @@ module _ (u : Universe) (start : List Record) (selection : ℕ → Bool) (change
   module _ (db : List Record) (unpacking : IsUnpacking start members [] db) where
     -- a member stands, as before or unpacked
     stands_now : (pkg : Pkg) → Contains members pkg → Dec (StandsAs start pkg.name pkg.version)
-        → HasRecord (λ found. Stands found × (pkg_of found ≡ pkg)) pkg.name db
+        → HasRecord (λ entry. Stands entry × (pkg_of entry ≡ pkg)) pkg.name db
     stands_now pkg within (yes stands) =
-        let found = standing_record_of u start selection change pkg within stands in
-        Any-intro (λ (r : Record). (r.name ≡ pkg.name) × (Stands r × (pkg_of r ≡ pkg))) db found.0
-        (stays_there [] db unpacking pkg within stands found.0 found.1 found.3) (named found.0 pkg found.3, (found.2, found.3))
+        let entry = standing_record_of u start selection change pkg within stands in
+        Any-intro (λ (r : Record). (r.name ≡ pkg.name) × (Stands r × (pkg_of r ≡ pkg))) db entry.0
+        (stays_there [] db unpacking pkg within stands entry.0 entry.1 entry.3) (named entry.0 pkg entry.3, (entry.2, entry.3))
     stands_now pkg within (no none) = elim (unpacking.done pkg (within, none)) [
       | inl left ↦ absurd (Contains-nil pkg left)
       | inr made ↦ Any-weaker (λ (r : Record). (r.name ≡ pkg.name) × IsUnpackedAs pkg r)
           (λ (r : Record). (r.name ≡ pkg.name) × (Stands r × (pkg_of r ≡ pkg))) db
-          (λ found there is. (is.0, (unpacked_stands pkg found is.1, is.1.same))) made
+          (λ entry there is. (is.0, (unpacked_stands pkg entry is.1, is.1.same))) made
     ]
 
     installed_now : (pkg : Pkg) → Contains members pkg → Stays start pkg
-        → HasRecord (λ found. IsInstalled found × (pkg_of found ≡ pkg)) pkg.name db
+        → HasRecord (λ entry. IsInstalled entry × (pkg_of entry ≡ pkg)) pkg.name db
     installed_now pkg within stays =
-        let found = staying_record_of u start selection change pkg within stays in
-        Any-intro (λ (r : Record). (r.name ≡ pkg.name) × (IsInstalled r × (pkg_of r ≡ pkg))) db found.0
-        (stays_there [] db unpacking pkg within (staying_stands u start selection change pkg within stays) found.0 found.1 found.4)
-        (named found.0 pkg found.4, (found.2, found.4))
+        let entry = staying_record_of u start selection change pkg within stays in
+        Any-intro (λ (r : Record). (r.name ≡ pkg.name) × (IsInstalled r × (pkg_of r ≡ pkg))) db entry.0
+        (stays_there [] db unpacking pkg within (staying_stands u start selection change pkg within stays) entry.0 entry.1 entry.4)
+        (named entry.0 pkg entry.4, (entry.2, entry.4))
 
     -- a present record of the start without a member may go
-    free_old : (found : Record) → Contains start found → IsPresent found → ¬ HasMember found.name members
-        → IsFree start members found
+    free_old : (entry : Record) → Contains start entry → IsPresent entry → ¬ HasMember entry.name members
+        → IsFree start members entry
     unfolding IsNotHeld IsAcceptable KeepsEssential
-    free_old found from present none = record {
-      was = old_one start members found from present;
-      sound = All-contains (λ (r : Record). IsPresent r → ¬ HasMember r.name members → HasSoundFlag r) start found
+    free_old entry from present none = record {
+      was = old_one start members entry from present;
+      sound = All-contains (λ (r : Record). IsPresent r → ¬ HasMember r.name members → HasSoundFlag r) start entry
           change.plain.removed_sound from present none;
-      unheld = λ held. change.plain.removed_unheld found.name
-          (Any-intro (λ (r : Record). (r.name ≡ found.name) × IsPresent r) start found from (refl, present), none)
-          (Any-intro (λ (r : Record). (r.name ≡ found.name) × IsHeld r) start found from (refl, held));
-      inessential = λ essential. none (All-contains (KeepsEssential members) (starts_of start) (start_of found)
+      unheld = λ held. change.plain.removed_unheld entry.name
+          (Any-intro (λ (r : Record). (r.name ≡ entry.name) × IsPresent r) start entry from (refl, present), none)
+          (Any-intro (λ (r : Record). (r.name ≡ entry.name) × IsHeld r) start entry from (refl, held));
+      inessential = λ essential. none (All-contains (KeepsEssential members) (starts_of start) (start_of entry)
           (subst (All (KeepsEssential members)) change.built.starts change.acceptable.essential)
-          (Contains-map_intro start_of start found from) essential present);
+          (Contains-map_intro start_of start entry from) essential present);
     }
 
-    has_member : (found : Record) (pkg : Pkg) → IsUnpackedAs pkg found → Contains members pkg → HasMember found.name members
+    has_member : (entry : Record) (pkg : Pkg) → IsUnpackedAs pkg entry → Contains members pkg → HasMember entry.name members
     unfolding HasMember
-    has_member found pkg as_it within =
-        Any-intro (λ (m : Pkg). m.name ≡ found.name) members pkg within (sym (named found pkg as_it.same))
+    has_member entry pkg as_it within =
+        Any-intro (λ (m : Pkg). m.name ≡ entry.name) members pkg within (sym (named entry pkg as_it.same))
 
     underway : IsUnderway u start members db
     unfolding IsNotHeld
@@ -279,64 +279,64 @@ module _ (u : Universe) (start : List Record) (selection : ℕ → Bool) (change
       standing = λ pkg within. stands_now pkg within (dec_StandsAs start pkg.name pkg.version);
       staying = installed_now;
       free = All-intro (λ (r : Record). IsPresent r → ¬ HasMember r.name members → IsFree start members r) db
-          (λ found within present none. elim (unpacking.each found within) [
-            | inl from ↦ free_old found from present none
-            | inr made ↦ absurd (none (has_member found made.0 made.1 made.2))
+          (λ entry within present none. elim (unpacking.each entry within) [
+            | inl from ↦ free_old entry from present none
+            | inr made ↦ absurd (none (has_member entry made.0 made.1 made.2))
           ]);
       sound = All-intro (λ (r : Record). IsRemoved r → ¬ IsPurgeGoal u r.name → HasSoundFlag r) db
-          (λ found within removed none. elim (unpacking.each found within) [
-            | inl from ↦ All-contains (λ (r : Record). IsRemoved r → ¬ IsPurgeGoal u r.name → HasSoundFlag r) start found
+          (λ entry within removed none. elim (unpacking.each entry within) [
+            | inl from ↦ All-contains (λ (r : Record). IsRemoved r → ¬ IsPurgeGoal u r.name → HasSoundFlag r) start entry
                 change.plain.left_sound from removed none
-            | inr made ↦ absurd (unpacked_isnt is_config_files_state refl made.0 found made.1 removed)
+            | inr made ↦ absurd (unpacked_isnt is_config_files_state refl made.0 entry made.1 removed)
           ]);
       unheld = All-intro (λ (r : Record). IsRemoved r → IsPurgeGoal u r.name → ¬ IsHeld r) db
-          (λ found within removed asked held. elim (unpacking.each found within) [
-            | inl from ↦ change.plain.purged_unheld found.name
-                (asked, Any-intro (λ (r : Record). (r.name ≡ found.name) × IsRemoved r) start found from (refl, removed))
-                (Any-intro (λ (r : Record). (r.name ≡ found.name) × IsHeld r) start found from (refl, held))
-            | inr made ↦ unpacked_isnt is_config_files_state refl made.0 found made.1 removed
+          (λ entry within removed asked held. elim (unpacking.each entry within) [
+            | inl from ↦ change.plain.purged_unheld entry.name
+                (asked, Any-intro (λ (r : Record). (r.name ≡ entry.name) × IsRemoved r) start entry from (refl, removed))
+                (Any-intro (λ (r : Record). (r.name ≡ entry.name) × IsHeld r) start entry from (refl, held))
+            | inr made ↦ unpacked_isnt is_config_files_state refl made.0 entry made.1 removed
           ]);
     }
 
     -- an installed record of the start whose name has a member is of one that stays
-    stays_old : (found : Record) → Contains db found → Contains start found → IsInstalled found → (pkg : Pkg) → Contains members pkg
-        → pkg.name ≡ found.name → Dec (StandsAs start pkg.name pkg.version) → Contains members (pkg_of found) × Stays start (pkg_of found)
+    stays_old : (entry : Record) → Contains db entry → Contains start entry → IsInstalled entry → (pkg : Pkg) → Contains members pkg
+        → pkg.name ≡ entry.name → Dec (StandsAs start pkg.name pkg.version) → Contains members (pkg_of entry) × Stays start (pkg_of entry)
     unfolding Stays
-    stays_old found there from installed pkg within same (yes stands) =
+    stays_old entry there from installed pkg within same (yes stands) =
         let old = standing_record_of u start selection change pkg within stands in
-        let one : old.0 ≡ found = one_record start change.built.distinct found old.0 from old.1 (named old.0 pkg old.3 ∙ same) in (
+        let one : old.0 ≡ entry = one_record start change.built.distinct entry old.0 from old.1 (named old.0 pkg old.3 ∙ same) in (
           subst (λ (r : Record). Contains members (pkg_of r)) one (subst (Contains members) (sym old.3) within),
-          Any-intro (λ (r : Record). (r.name ≡ found.name) × (IsInstalled r × HasSoundFlag r × SameVersion r.version found.version)) start
-              found from (
+          Any-intro (λ (r : Record). (r.name ≡ entry.name) × (IsInstalled r × HasSoundFlag r × SameVersion r.version entry.version)) start
+              entry from (
                 refl,
                 (
                   installed,
-                  stands_sound found (subst (λ (r : Record). Stands r) one old.2),
-                  same_version_equivalence.reflexive found.version,
+                  stands_sound entry (subst (λ (r : Record). Stands r) one old.2),
+                  same_version_equivalence.reflexive entry.version,
                 ),
               ),
         )
-    stays_old found there from installed pkg within same (no none) = elim (unpacking.done pkg (within, none)) [
+    stays_old entry there from installed pkg within same (no none) = elim (unpacking.done pkg (within, none)) [
       | inl left ↦ absurd (Contains-nil pkg left)
-      | inr made ↦ absurd (unpacked_isnt is_installed_state refl pkg found (the_record (IsUnpackedAs pkg) db unpacking.distinct found there
+      | inr made ↦ absurd (unpacked_isnt is_installed_state refl pkg entry (the_record (IsUnpackedAs pkg) db unpacking.distinct entry there
           (subst (λ n. HasRecord (IsUnpackedAs pkg) n db) same made)) installed)
     ]
 
-    stays_now : (found : Record) → Contains db found → IsInstalled found → HasMember found.name members
-        → Contains members (pkg_of found) × Stays start (pkg_of found)
+    stays_now : (entry : Record) → Contains db entry → IsInstalled entry → HasMember entry.name members
+        → Contains members (pkg_of entry) × Stays start (pkg_of entry)
     unfolding HasMember
-    stays_now found there installed has = Any-elim (λ (m : Pkg). m.name ≡ found.name) members
-        (Contains members (pkg_of found) × Stays start (pkg_of found)) (λ pkg within same.
-        elim (unpacking.each found there) [
-          | inl from ↦ stays_old found there from installed pkg within same (dec_StandsAs start pkg.name pkg.version)
-          | inr made ↦ absurd (unpacked_isnt is_installed_state refl made.0 found made.1 installed)
+    stays_now entry there installed has = Any-elim (λ (m : Pkg). m.name ≡ entry.name) members
+        (Contains members (pkg_of entry) × Stays start (pkg_of entry)) (λ pkg within same.
+        elim (unpacking.each entry there) [
+          | inl from ↦ stays_old entry there from installed pkg within same (dec_StandsAs start pkg.name pkg.version)
+          | inr made ↦ absurd (unpacked_isnt is_installed_state refl made.0 entry made.1 installed)
         ]) has
 
 pub unpacks_are_allowed : UnpacksAreAllowed
 unpacks_are_allowed u start selection pkgs change unpacks =
     let first : IsUnpacking start (selected u selection) pkgs start = record {
       distinct = change.built.distinct;
-      each = λ found within. inl within;
+      each = λ entry within. inl within;
       kept = λ old there none. there;
       done = λ pkg unpack. inl ((unpacks.each pkg).1 unpack);
     } in
@@ -348,5 +348,5 @@ unpacks_are_allowed u start selection pkgs change unpacks =
       underway = underway u start selection change reached ran.1;
       staying = All-intro (λ (r : Record). IsInstalled r → HasMember r.name (selected u selection)
           → Contains (selected u selection) (pkg_of r) × Stays start (pkg_of r)) reached
-          (λ found there installed has. stays_now u start selection change reached ran.1 found there installed has);
+          (λ entry there installed has. stays_now u start selection change reached ran.1 entry there installed has);
     }

@@ -16,17 +16,17 @@ use Rattle.plain.specs.Counted.{IsCounted}
 
 -- the packages that are present at the start, and the members
 abbrev pub old_and_new : List Record → List Pkg → List Pkg
-old_and_new start members = map pkg_of (filter (λ found. is_present_state found.state) start) ++ members
+old_and_new start members = map pkg_of (filter (λ entry. is_present_state entry.state) start) ++ members
 
 -- no package that is present at the start or a member conflicts with or breaks another of these of another name
-unfoldable pub AreAtPeace : List Record → List Pkg → Type 0
-AreAtPeace start members = (pkg other : Pkg) → Contains (old_and_new start members) pkg
+unfoldable pub HaveNoClash : List Record → List Pkg → Type 0
+HaveNoClash start members = (pkg other : Pkg) → Contains (old_and_new start members) pkg
     → Contains (old_and_new start members) other → other.name ≢ pkg.name → (¬ ConflictsWith pkg other) × (¬ BreaksOther pkg other)
 
 -- the member stays: its version is installed with flag ok at the start
 unfoldable pub Stays : List Record → Pkg → Type 0
 Stays start member =
-    HasRecord (λ found. IsInstalled found × HasSoundFlag found × SameVersion found.version member.version) member.name start
+    HasRecord (λ entry. IsInstalled entry × HasSoundFlag entry × SameVersion entry.version member.version) member.name start
 
 -- the clause is matched by a member of another name that stays
 unfoldable pub IsMetByStaying : List Record → List Pkg → List ℕ → List Atom → Type 0
@@ -61,13 +61,13 @@ IsToPurge u db name = IsPurgeGoal u name × HasRecord IsRemoved name db
 -- a plain change: nothing that was present or is selected is against another, what doesn't stay finds its
 -- Pre-Depends among what stays, nothing that is touched is held, and no flag is left that no step mends
 pub record IsPlain (u : Universe) (start : List Record) (members : List Pkg) : Type 0 where
-  pub peace : AreAtPeace start members
+  pub no_clash : HaveNoClash start members
   pub ready : All (IsReady start members) members
   pub unpacked_unheld : (pkg : Pkg) → IsToUnpack start members pkg → IsNotHeld start pkg.name
   pub removed_unheld : (name : List ℕ) → IsToRemove members start name → IsNotHeld start name
   pub purged_unheld : (name : List ℕ) → IsToPurge u start name → IsNotHeld start name
-  pub removed_sound : All (λ found. IsPresent found → ¬ HasMember found.name members → HasSoundFlag found) start
-  pub left_sound : All (λ found. IsRemoved found → ¬ IsPurgeGoal u found.name → HasSoundFlag found) start
+  pub removed_sound : All (λ entry. IsPresent entry → ¬ HasMember entry.name members → HasSoundFlag entry) start
+  pub left_sound : All (λ entry. IsRemoved entry → ¬ IsPurgeGoal u entry.name → HasSoundFlag entry) start
 
 -- a plain change to an acceptable selection, over a universe that is built on the start and counted by it
 pub record IsPlainChange (u : Universe) (start : List Record) (selection : ℕ → Bool) : Type 0 where

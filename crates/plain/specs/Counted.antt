@@ -9,8 +9,8 @@ use Rattle.rules.specs.Version.{SameVersion}
 
 -- the record, if it is the one of the pair that stands, has the pair's package
 abbrev pub HasItsPackage : Pair → Record → Type 0
-HasItsPackage pair found = found.name ≡ pair.pkg.name → Stands found → SameVersion found.version pair.pkg.version
-    → pkg_of found ≡ pair.pkg
+HasItsPackage pair entry = entry.name ≡ pair.pkg.name → Stands entry → SameVersion entry.version pair.pkg.version
+    → pkg_of entry ≡ pair.pkg
 
 -- the pair, if its version doesn't stand, is in the indices with its package
 abbrev pub HasItsListed : List Record → Pair → Type 0

@@ -26,8 +26,8 @@ MembersAreByName = (u : Universe) (start : List Record) (selection : ℕ → Boo
 pub record AreUnpacked (u : Universe) (start : List Record) (members pkgs : List Pkg) (db : List Record) : Type 0 where
   pub run : Run u start (map unpack_of pkgs) db
   pub underway : IsUnderway u start members db
-  pub staying : All (λ found. IsInstalled found → HasMember found.name members
-      → Contains members (pkg_of found) × Stays start (pkg_of found)) db
+  pub staying : All (λ entry. IsInstalled entry → HasMember entry.name members
+      → Contains members (pkg_of entry) × Stays start (pkg_of entry)) db
 
 -- in a plain change the unpacks by name are allowed, each behind those before it
 abbrev pub UnpacksAreAllowed : Type 0

@@ -14,14 +14,14 @@ use Rattle.rules.specs.declared.goal.Goal.TheVariants as goal
 use Rattle.plainness.specs.Parts.{LeftAreSound, MayBeLeft, MayLeave, PurgedAreUnheld, RemovedAreSound, RemovedAreUnheld, UnpackedAreUnheld}
 
 -- the record of a name has what each record with a property has
-of_record : (P : Record → Type 0) (Q : List ℕ → Type 0) (db : List Record) → ((found : Record) → Contains db found → P found → Q found.name)
+of_record : (P : Record → Type 0) (Q : List ℕ → Type 0) (db : List Record) → ((entry : Record) → Contains db entry → P entry → Q entry.name)
     → (name : List ℕ) → HasRecord P name db → Q name
-of_record P Q db each name has = Any-elim (λ (found : Record). (found.name ≡ name) × P found) db (Q name)
-    (λ found within is. subst Q is.0 (each found within is.1)) has
+of_record P Q db each name has = Any-elim (λ (entry : Record). (entry.name ≡ name) × P entry) db (Q name)
+    (λ entry within is. subst Q is.0 (each entry within is.1)) has
 
 -- a record has its own name
-own_record : (P : Record → Type 0) (db : List Record) (found : Record) → Contains db found → P found → HasRecord P found.name db
-own_record P db found within is = Any-intro (λ (other : Record). (other.name ≡ found.name) × P other) db found within (refl, is)
+own_record : (P : Record → Type 0) (db : List Record) (entry : Record) → Contains db entry → P entry → HasRecord P entry.name db
+own_record P db entry within is = Any-intro (λ (other : Record). (other.name ≡ entry.name) × P other) db entry within (refl, is)
 
 -- each record may leave where what is to be removed is unheld and sound
 pub leaving : (start : List Record) (members : List Pkg) (names : List (List ℕ))
@@ -31,15 +31,15 @@ unfolding MayLeave
 leaving start members names table = (
   λ all. (
     λ name goes. of_record IsPresent (λ n. ¬ HasMember n members → IsNotHeld start n) start
-        (λ found within is alone. (All-contains (MayLeave start names) start found all within is (λ there. alone ((table found.name).0 there))).0)
+        (λ entry within is alone. (All-contains (MayLeave start names) start entry all within is (λ there. alone ((table entry.name).0 there))).0)
         name goes.0 goes.1,
-    All-intro (λ (found : Record). IsPresent found → ¬ HasMember found.name members → HasSoundFlag found) start
-        (λ found within is alone. (All-contains (MayLeave start names) start found all within is (λ there. alone ((table found.name).0 there))).1),
+    All-intro (λ (entry : Record). IsPresent entry → ¬ HasMember entry.name members → HasSoundFlag entry) start
+        (λ entry within is alone. (All-contains (MayLeave start names) start entry all within is (λ there. alone ((table entry.name).0 there))).1),
   ),
-  λ both. All-intro (MayLeave start names) start (λ found within is alone.
-      let none : ¬ HasMember found.name members = λ has. alone ((table found.name).1 has) in (
-        both.0 found.name (own_record IsPresent start found within is, none),
-        All-contains (λ (found : Record). IsPresent found → ¬ HasMember found.name members → HasSoundFlag found) start found both.1 within is none,
+  λ both. All-intro (MayLeave start names) start (λ entry within is alone.
+      let none : ¬ HasMember entry.name members = λ has. alone ((table entry.name).1 has) in (
+        both.0 entry.name (own_record IsPresent start entry within is, none),
+        All-contains (λ (entry : Record). IsPresent entry → ¬ HasMember entry.name members → HasSoundFlag entry) start entry both.1 within is none,
       )),
 )
 
@@ -51,15 +51,15 @@ unfolding IsPurgeGoal MayBeLeft
 left u start names table = (
   λ all. (
     λ name goes. of_record IsRemoved (λ n. IsPurgeGoal u n → IsNotHeld start n) start
-        (λ found within is asked. (All-contains (MayBeLeft start names) start found all within is).0 ((table found.name).1 asked))
+        (λ entry within is asked. (All-contains (MayBeLeft start names) start entry all within is).0 ((table entry.name).1 asked))
         name goes.1 goes.0,
-    All-intro (λ (found : Record). IsRemoved found → ¬ IsPurgeGoal u found.name → HasSoundFlag found) start
-        (λ found within is unasked. (All-contains (MayBeLeft start names) start found all within is).1 (λ there. unasked ((table found.name).0 there))),
+    All-intro (λ (entry : Record). IsRemoved entry → ¬ IsPurgeGoal u entry.name → HasSoundFlag entry) start
+        (λ entry within is unasked. (All-contains (MayBeLeft start names) start entry all within is).1 (λ there. unasked ((table entry.name).0 there))),
   ),
-  λ both. All-intro (MayBeLeft start names) start (λ found within is. (
-    λ there. both.0 found.name ((table found.name).0 there, own_record IsRemoved start found within is),
-    λ none. All-contains (λ (found : Record). IsRemoved found → ¬ IsPurgeGoal u found.name → HasSoundFlag found) start found both.1 within is
-        (λ asked. none ((table found.name).1 asked)),
+  λ both. All-intro (MayBeLeft start names) start (λ entry within is. (
+    λ there. both.0 entry.name ((table entry.name).0 there, own_record IsRemoved start entry within is),
+    λ none. All-contains (λ (entry : Record). IsRemoved entry → ¬ IsPurgeGoal u entry.name → HasSoundFlag entry) start entry both.1 within is
+        (λ asked. none ((table entry.name).1 asked)),
   )),
 )
 

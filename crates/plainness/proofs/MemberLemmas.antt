@@ -9,7 +9,7 @@ use Rattle.refutation.specs.Selection.{selects}
 use Rattle.refutation.proofs.SelectionLemmas.{contained_selects, selects_contained}
 use Rattle.refutation.specs.Clause.{item_at}
 use Rattle.refutation.proofs.MemberLemmas.{is_member, picked}
-use Rattle.plain.specs.Change.{AreAtPeace, IsMetByStaying, IsPlain, IsReady, Stays, old_and_new}
+use Rattle.plain.specs.Change.{HaveNoClash, IsMetByStaying, IsPlain, IsReady, Stays, old_and_new}
 use Rattle.rules.specs.Database.{Record, HasSoundFlag, IsPresent, pkg_of}
 use Rattle.rules.specs.ElementLaws.{All-intro, Any-elim, Any-intro, Contains-cons, Contains-head, Contains-nil, Contains-rest}
 use Rattle.rules.specs.Package.{Atom, MatchesSome, Pkg}
@@ -77,10 +77,10 @@ same_members u numbers pkg = (to, from)
   where
     to : Contains (numbered_members u numbers) pkg → Contains (selected u (selects numbers)) pkg
     to within =
-        let found = Contains-filter_map (pkg_of_number u) numbers pkg within in
-        let at = pair_of u found.0 pkg found.2 in
+        let origin = Contains-filter_map (pkg_of_number u) numbers pkg within in
+        let at = pair_of u origin.0 pkg origin.2 in
         subst (Contains (selected u (selects numbers))) at.2
-        (is_member u (selects numbers) found.0 at.0 at.1 (selects_contained numbers found.0 found.1))
+        (is_member u (selects numbers) origin.0 at.0 at.1 (selects_contained numbers origin.0 origin.1))
 
     from : Contains (selected u (selects numbers)) pkg → Contains (numbered_members u numbers) pkg
     from within =
@@ -92,15 +92,15 @@ same_members u numbers pkg = (to, from)
 module _ (u : Universe) (start : List Record) (members others : List Pkg) (same : AreSame members others) where
   old_or_new : (pkg : Pkg) → Contains (old_and_new start others) pkg → Contains (old_and_new start members) pkg
   old_or_new pkg within =
-      let present : List Pkg = map pkg_of (filter (λ (found : Record). is_present_state found.state) start) in
+      let present : List Pkg = map pkg_of (filter (λ (entry : Record). is_present_state entry.state) start) in
       elim (Contains-append_cases present others pkg within) [
         | inl old ↦ Contains-append_left present members pkg old
         | inr here ↦ Contains-append_right present members pkg ((same pkg).1 here)
       ]
 
-  peace_again : AreAtPeace start members → AreAtPeace start others
-  unfolding AreAtPeace
-  peace_again peace pkg other within there = peace pkg other (old_or_new pkg within) (old_or_new other there)
+  no_clash_again : HaveNoClash start members → HaveNoClash start others
+  unfolding HaveNoClash
+  no_clash_again no_clash pkg other within there = no_clash pkg other (old_or_new pkg within) (old_or_new other there)
 
   met_again : (name : List ℕ) (clause : List Atom) → IsMetByStaying start members name clause → IsMetByStaying start others name clause
   unfolding IsMetByStaying
@@ -122,14 +122,14 @@ module _ (u : Universe) (start : List Record) (members others : List Pkg) (same 
 
   pub plain_again : IsPlain u start members → IsPlain u start others
   plain_again plain = record {
-    peace = peace_again plain.peace;
+    no_clash = no_clash_again plain.no_clash;
     ready = ready_again plain.ready;
     unpacked_unheld = λ pkg unpack. plain.unpacked_unheld pkg ((same pkg).1 unpack.0, unpack.1);
     removed_unheld = λ name goes. plain.removed_unheld name (goes.0, λ has. goes.1 (member_again name has));
     purged_unheld = plain.purged_unheld;
-    removed_sound = All-intro (λ (found : Record). IsPresent found → ¬ HasMember found.name others → HasSoundFlag found) start (λ found there is alone.
-        All-contains (λ (found : Record). IsPresent found → ¬ HasMember found.name members → HasSoundFlag found) start found
-        plain.removed_sound there is (λ has. alone (member_again found.name has)));
+    removed_sound = All-intro (λ (entry : Record). IsPresent entry → ¬ HasMember entry.name others → HasSoundFlag entry) start (λ entry there is alone.
+        All-contains (λ (entry : Record). IsPresent entry → ¬ HasMember entry.name members → HasSoundFlag entry) start entry
+        plain.removed_sound there is (λ has. alone (member_again entry.name has)));
     left_sound = plain.left_sound;
   }
 

@@ -21,9 +21,9 @@ pub found_at : (packages : List Pkg) (name places : List ℕ) (P : Pkg → Type 
     → Any (λ place. MatchOption (slice_get packages place) ⊥ P) places ↔ Any P packages
 found_at packages name places P exact named = (
   λ some. Any-elim (λ place. MatchOption (slice_get packages place) ⊥ P) places (Any P packages) (λ place within holds.
-      let found = some_of (slice_get packages place) P holds in
-      Any-intro P packages found.0 (place, slice_get_within packages place found.0 found.1, get_or_from_slice_get packages place found.0 found.0 found.1)
-      found.2) some,
+      let stanza = some_of (slice_get packages place) P holds in
+      Any-intro P packages stanza.0 (place, slice_get_within packages place stanza.0 stanza.1, get_or_from_slice_get packages place stanza.0 stanza.0 stanza.1)
+      stanza.2) some,
   λ some. Any-elim P packages (Any (λ place. MatchOption (slice_get packages place) ⊥ P) places) (λ pkg within holds.
       let there : slice_get packages within.0 ≡ Some pkg = slice_get-get_or packages within.0 pkg within.1 ∙ ap Some within.2 in
       Any-intro (λ place. MatchOption (slice_get packages place) ⊥ P) places within.0
@@ -40,8 +40,8 @@ by_atoms : (packages : List Pkg) (name : List ℕ) (atoms : List Atom)
 unfolding MatchesSome
 by_atoms packages name atoms = (
   λ some. Any-elim (λ atom. Any (IsOtherMatch name atom) packages) atoms (Any (λ (o : Pkg). (o.name ≢ name) × Any (Matches o) atoms) packages)
-      (λ atom within found. Any-weaker (IsOtherMatch name atom) (λ (o : Pkg). (o.name ≢ name) × Any (Matches o) atoms) packages
-      (λ pkg there both. (both.0, Any-intro (Matches pkg) atoms atom within both.1)) found) some,
+      (λ atom within matched. Any-weaker (IsOtherMatch name atom) (λ (o : Pkg). (o.name ≢ name) × Any (Matches o) atoms) packages
+      (λ pkg there both. (both.0, Any-intro (Matches pkg) atoms atom within both.1)) matched) some,
   λ met. Any-elim (λ (o : Pkg). (o.name ≢ name) × Any (Matches o) atoms) packages (Any (λ atom. Any (IsOtherMatch name atom) packages) atoms)
       (λ pkg there both. Any-weaker (Matches pkg) (λ atom. Any (IsOtherMatch name atom) packages) atoms
       (λ atom within matches. Any-intro (IsOtherMatch name atom) packages pkg there (both.0, matches)) both.1) met,
@@ -54,14 +54,14 @@ IsUnmatched packages name atom = ¬ Any (IsOtherMatch name atom) packages
 -- the atom at which a loop stops is matched
 pub matched_here : (packages : List Pkg) (name : List ℕ) (atoms : List Atom) (place : ℕ) (atom : Atom) → place < length atoms
     → atom ≡ get_or atoms place atom → Any (IsOtherMatch name atom) packages → IsMatchedByOther packages name atoms
-matched_here packages name atoms place atom within is found = (by_atoms packages name atoms).0
-    (Any-intro (λ a. Any (IsOtherMatch name a) packages) atoms atom (place, within, sym is) found)
+matched_here packages name atoms place atom within is matched = (by_atoms packages name atoms).0
+    (Any-intro (λ a. Any (IsOtherMatch name a) packages) atoms atom (place, within, sym is) matched)
 
 -- where none of all atoms is matched
 pub matched_nowhere : (packages : List Pkg) (name : List ℕ) (atoms : List Atom) → All (IsUnmatched packages name) atoms
     → ¬ IsMatchedByOther packages name atoms
 matched_nowhere packages name atoms none some = Any-elim (λ atom. Any (IsOtherMatch name atom) packages) atoms ⊥
-    (λ atom within found. All-contains (IsUnmatched packages name) atoms atom none within found) ((by_atoms packages name atoms).1 some)
+    (λ atom within matched. All-contains (IsUnmatched packages name) atoms atom none within matched) ((by_atoms packages name atoms).1 some)
 
 -- no package clashes where each by itself clashes with none
 pub none_clash : (packages : List (Bor Pkg)) (values : List Pkg) → map (λ (pkg : Bor Pkg). pkg.now) packages ≡ values

@@ -18,7 +18,7 @@ RemovedAreUnheld start members = (name : List ℕ) → IsToRemove members start 
 
 -- what is to be removed has flag ok
 abbrev pub RemovedAreSound : List Record → List Pkg → Type 0
-RemovedAreSound start members = All (λ found. IsPresent found → ¬ HasMember found.name members → HasSoundFlag found) start
+RemovedAreSound start members = All (λ entry. IsPresent entry → ¬ HasMember entry.name members → HasSoundFlag entry) start
 
 -- no name that is to be purged is held
 abbrev pub PurgedAreUnheld : Universe → List Record → Type 0
@@ -26,16 +26,16 @@ PurgedAreUnheld u start = (name : List ℕ) → IsToPurge u start name → IsNot
 
 -- what is removed already, and isn't to be purged, has flag ok
 abbrev pub LeftAreSound : Universe → List Record → Type 0
-LeftAreSound u start = All (λ found. IsRemoved found → ¬ IsPurgeGoal u found.name → HasSoundFlag found) start
+LeftAreSound u start = All (λ entry. IsRemoved entry → ¬ IsPurgeGoal u entry.name → HasSoundFlag entry) start
 
 -- the record, if it is present and of none of these names, isn't held and has flag ok
 unfoldable pub MayLeave : List Record → List (List ℕ) → Record → Type 0
-MayLeave start names found = IsPresent found → ¬ Contains names found.name → IsNotHeld start found.name × HasSoundFlag found
+MayLeave start names entry = IsPresent entry → ¬ Contains names entry.name → IsNotHeld start entry.name × HasSoundFlag entry
 
 -- the record, if it is removed already, isn't held where it is of one of these names, and else has flag ok
 unfoldable pub MayBeLeft : List Record → List (List ℕ) → Record → Type 0
-MayBeLeft start names found = IsRemoved found
-    → (Contains names found.name → IsNotHeld start found.name) × (¬ Contains names found.name → HasSoundFlag found)
+MayBeLeft start names entry = IsRemoved entry
+    → (Contains names entry.name → IsNotHeld start entry.name) × (¬ Contains names entry.name → HasSoundFlag entry)
 
 -- a package of the list, of another name than this, matches one of the atoms
 abbrev pub IsMatchedByOther : List Pkg → List ℕ → List Atom → Type 0

@@ -7,7 +7,7 @@ ghost use Rattle.plain.specs.Change.{IsPlain};
 
 use crate::left::{are_purges_plain, are_removals_plain};
 use crate::members::members_of;
-use crate::peace::are_at_peace;
+use crate::no_clash::have_no_clash;
 use crate::ready::are_ready;
 use crate::unpacked::are_unpacks_plain;
 use plancheck_state::Records;
@@ -40,8 +40,8 @@ fn is_plain_to(
     if !ready {
         return Ok(false);
     }
-    let peace = are_at_peace(alloc, start, members)?;
-    Ok(peace)
+    let no_clash = have_no_clash(alloc, start, members)?;
+    Ok(no_clash)
 }
 
 /// Whether the change from the start to the pairs of these numbers, counted from 1, is plain. Numbers of no pair are passed

@@ -13,12 +13,12 @@ use universe::Universe;
 
 // Whether the record, if it is present and of none of the names, isn't held and has flag ok.
 #[tactic(auto, unfolding(crate::specs::Parts::MayLeave))]
-fn may_leave(start: &Records<'_, '_>, names: &Names<'_>, found: &StateRecord<'_, '_>) -> bool
-    ensures { IsTrue result ↔ MayLeave start.now names.now found.now }
+fn may_leave(start: &Records<'_, '_>, names: &Names<'_>, entry: &StateRecord<'_, '_>) -> bool
+    ensures { IsTrue result ↔ MayLeave start.now names.now entry.now }
 {
-    !found.state().is_present()
-        || names.has(found.name())
-        || (is_not_held(start, found.name()) && found.flag().is_sound())
+    !entry.state().is_present()
+        || names.has(entry.name())
+        || (is_not_held(start, entry.name()) && entry.flag().is_sound())
 }
 
 fn all_may_leave(start: &Records<'_, '_>, names: &Names<'_>) -> bool
@@ -27,7 +27,7 @@ fn all_may_leave(start: &Records<'_, '_>, names: &Names<'_>) -> bool
     start
         .as_slice()
         .iter()
-        .all(|found| may_leave(start, names, found))
+        .all(|entry| may_leave(start, names, entry))
 }
 
 /// Whether no name that is to be removed is held, and each has flag ok. Memory alone can fail. Linear in the records and the
@@ -48,15 +48,15 @@ pub(crate) fn are_removals_plain(
 
 // Whether the record, if it is removed already, isn't held where it is of one of the names, and else has flag ok.
 #[tactic(auto, unfolding(crate::specs::Parts::MayBeLeft))]
-fn may_be_left(start: &Records<'_, '_>, names: &Names<'_>, found: &StateRecord<'_, '_>) -> bool
-    ensures { IsTrue result ↔ MayBeLeft start.now names.now found.now }
+fn may_be_left(start: &Records<'_, '_>, names: &Names<'_>, entry: &StateRecord<'_, '_>) -> bool
+    ensures { IsTrue result ↔ MayBeLeft start.now names.now entry.now }
 {
-    if !found.state().is_removed() {
+    if !entry.state().is_removed() {
         true
-    } else if names.has(found.name()) {
-        is_not_held(start, found.name())
+    } else if names.has(entry.name()) {
+        is_not_held(start, entry.name())
     } else {
-        found.flag().is_sound()
+        entry.flag().is_sound()
     }
 }
 
@@ -66,7 +66,7 @@ fn all_may_be_left(start: &Records<'_, '_>, names: &Names<'_>) -> bool
     start
         .as_slice()
         .iter()
-        .all(|found| may_be_left(start, names, found))
+        .all(|entry| may_be_left(start, names, entry))
 }
 
 /// Whether no name that is to be purged is held, and what else is removed already has flag ok. Memory alone can fail. Linear

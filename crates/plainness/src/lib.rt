@@ -7,8 +7,8 @@ mod change;
 mod left;
 mod members;
 mod names;
+mod no_clash;
 mod packages;
-mod peace;
 mod ready;
 mod unpacked;
 

@@ -32,7 +32,8 @@ pub(crate) fn members_of<'u, 'a>(
     universe: &'u Universe<'_, 'a>,
     selection: &[u32],
 ) -> Result<Vec<CountingPkg<'u, 'a>>, AllocError>
-    ensures { IfOk result (λ members. AreSame members.items (selected universe.now (selects selection.now))) }
+    ensures { IfOk result
+        (λ members. AreSame members.items (selected universe.now (selects selection.now))) }
 {
     let members = in_order_of(alloc, universe, selection)?;
     Ok(members)

@@ -60,7 +60,8 @@ impl<'k> Names<'k> {
 
     // The names of the packages.
     fn put_members(alloc: Global, members: &[&Pkg<'k>]) -> Result<Names<'k>, AllocError>
-        ensures { IfOk result (λ names. names ≡ fold with_name [] (map (λ member. member.now.name) members.now)) }
+        ensures { IfOk result
+            (λ names. names ≡ fold with_name [] (map (λ member. member.now.name) members.now)) }
     {
         let mut names = Names::new(alloc);
         for member in members {
@@ -82,7 +83,9 @@ impl<'k> Names<'k> {
 
     /// The names of the packages. Memory alone can fail. Linear in them.
     pub(crate) fn of_members(alloc: Global, members: &[&Pkg<'k>]) -> Result<Names<'k>, AllocError>
-        ensures { IfOk result (λ names. (name : List ℕ) → Contains names name ↔ HasMember name (map (λ member. member.now) members.now)) }
+        ensures { IfOk result
+            (λ names. (name : List ℕ) → Contains names name
+            ↔ HasMember name (map (λ member. member.now) members.now)) }
     {
         let names = Names::put_members(alloc, members)?;
         Ok(names)
@@ -90,7 +93,9 @@ impl<'k> Names<'k> {
 
     /// The names that the goals are to purge. Memory alone can fail. Linear in them.
     pub(crate) fn of_purges(alloc: Global, goals: &'k [Goal]) -> Result<Names<'k>, AllocError>
-        ensures { IfOk result (λ names. (name : List ℕ) → Contains names name ↔ Contains goals.now (goal.Purge name)) }
+        ensures { IfOk result
+            (λ names. (name : List ℕ) → Contains names name
+            ↔ Contains goals.now (goal.Purge name)) }
     {
         let names = Names::put_purges(alloc, goals)?;
         Ok(names)

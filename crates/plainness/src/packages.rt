@@ -94,7 +94,9 @@ impl<'k, 'a> Packages<'k, 'a> {
 
     // Whether a package of another name than this matches the atom.
     fn has_match(&self, name: &[u8], atom: &Atom<'_>) -> Result<bool, AllocError>
-        ensures { IfOk result (λ answer. IsTrue answer ↔ Any (λ pkg. (pkg.name ≢ name.now) × Matches pkg atom.now) self.now) }
+        ensures { IfOk result
+            (λ answer. IsTrue answer
+            ↔ Any (λ pkg. (pkg.name ≢ name.now) × Matches pkg atom.now) self.now) }
     {
         let places = self.providers.of(self.alloc, atom.name())?;
         let answer = self.is_match_among(places.as_slice(), name, atom);
@@ -104,11 +106,12 @@ impl<'k, 'a> Packages<'k, 'a> {
     /// Whether a package of another name than this matches one of the atoms. Memory alone can fail. For each atom linear in
     /// the packages that have or provide its name.
     pub(crate) fn have_match(&self, name: &[u8], atoms: &[Atom<'_>]) -> Result<bool, AllocError>
-        ensures { IfOk result (λ answer. IsTrue answer ↔ IsMatchedByOther self.now name.now atoms.now) }
+        ensures { IfOk result
+            (λ answer. IsTrue answer ↔ IsMatchedByOther self.now name.now atoms.now) }
     {
         for atom in atoms {
-            let found = self.has_match(name, atom)?;
-            if found {
+            let matched = self.has_match(name, atom)?;
+            if matched {
                 return Ok(true);
             }
         }

@@ -15,32 +15,39 @@ use relation::{Clause, Pkg};
 use std::alloc::{AllocError, Global};
 
 // Whether the package of the record is installed with flag ok in this version.
-fn is_version(found: &StateRecord<'_, '_>, version: &Version<'_>) -> bool
-    ensures { IsTrue result ↔ (IsInstalled found.now × HasSoundFlag found.now × SameVersion found.now.version version.now) }
+fn is_version(entry: &StateRecord<'_, '_>, version: &Version<'_>) -> bool
+    ensures { IsTrue result
+        ↔ (IsInstalled entry.now × HasSoundFlag entry.now
+        × SameVersion entry.now.version version.now) }
 {
-    match found.present_pkg() {
-        Some(there) if found.state().is_installed() => {
-            found.flag().is_sound() && there.version() == version
+    match entry.present_pkg() {
+        Some(there) if entry.state().is_installed() => {
+            entry.flag().is_sound() && there.version() == version
         }
         _ => false,
     }
 }
 
-fn is_named_version(found: &StateRecord<'_, '_>, name: &[u8], version: &Version<'_>) -> bool
-    ensures { IsTrue result ↔ ((found.now.name ≡ name.now)
-        × (IsInstalled found.now × HasSoundFlag found.now × SameVersion found.now.version version.now)) }
+fn is_named_version(entry: &StateRecord<'_, '_>, name: &[u8], version: &Version<'_>) -> bool
+    ensures { IsTrue result ↔ ((entry.now.name ≡ name.now)
+        × (IsInstalled entry.now × HasSoundFlag entry.now
+        × SameVersion entry.now.version version.now)) }
 {
-    is_same(found.name(), name) && is_version(found, version)
+    is_same(entry.name(), name) && is_version(entry, version)
 }
 
-fn some_is_version(mut found: Holders<'_, '_, '_>, name: &[u8], version: &Version<'_>) -> bool
-    ensures { IsTrue result ↔ HasRecord (λ found. IsInstalled found × HasSoundFlag found × SameVersion found.version version.now) name.now found.entry }
+fn some_is_version(mut holders: Holders<'_, '_, '_>, name: &[u8], version: &Version<'_>) -> bool
+    ensures { IsTrue result
+        ↔ HasRecord (λ entry. IsInstalled entry × HasSoundFlag entry
+        × SameVersion entry.version version.now) name.now holders.entry }
 {
-    found.any(|found| is_named_version(found, name, version))
+    holders.any(|entry| is_named_version(entry, name, version))
 }
 
 fn is_staying(start: &Records<'_, '_>, name: &[u8], version: &Version<'_>) -> bool
-    ensures { IsTrue result ↔ HasRecord (λ found. IsInstalled found × HasSoundFlag found × SameVersion found.version version.now) name.now start.now }
+    ensures { IsTrue result
+        ↔ HasRecord (λ entry. IsInstalled entry × HasSoundFlag entry
+        × SameVersion entry.version version.now) name.now start.now }
 {
     some_is_version(start.holders(name), name, version)
 }
@@ -60,7 +67,8 @@ fn push_staying<'k, 'a>(
     member: &'k Pkg<'a>,
 ) -> Result<(), AllocError>
     ensures { OnOk result ((pkg : PkgValue) → Contains (map (λ pkg. pkg.now) staying.new.items) pkg
-        ↔ (Contains (map (λ pkg. pkg.now) staying.old.items) pkg ⊎ ((pkg ≡ member.now) × Stays start.now pkg))) }
+        ↔ (Contains (map (λ pkg. pkg.now) staying.old.items) pkg
+        ⊎ ((pkg ≡ member.now) × Stays start.now pkg))) }
 {
     if !stays(start, member) {
         return Ok(());
@@ -75,7 +83,9 @@ fn staying_of<'k, 'a>(
     start: &Records<'_, '_>,
     members: &[&'k Pkg<'a>],
 ) -> Result<Vec<&'k Pkg<'a>>, AllocError>
-    ensures { IfOk result (λ staying. AreStaying start.now (map (λ pkg. pkg.now) members.now) (map (λ pkg. pkg.now) staying.items)) }
+    ensures { IfOk result
+        (λ staying. AreStaying start.now (map (λ pkg. pkg.now) members.now)
+        (map (λ pkg. pkg.now) staying.items)) }
 {
     let mut staying = Vec::new(alloc);
     for member in members {
@@ -90,7 +100,8 @@ fn are_matched(
     name: &[u8],
     clauses: &[Clause<'_>],
 ) -> Result<bool, AllocError>
-    ensures { IfOk result (λ answer. IsTrue answer ↔ All (IsMatchedByOther packages.now name.now) clauses.now) }
+    ensures { IfOk result
+        (λ answer. IsTrue answer ↔ All (IsMatchedByOther packages.now name.now) clauses.now) }
 {
     for clause in clauses {
         let met = packages.have_match(name, clause.as_slice())?;
@@ -122,7 +133,9 @@ fn all_are_ready(
     staying: &Packages<'_, '_>,
     members: &[&Pkg<'_>],
 ) -> Result<bool, AllocError>
-    ensures { IfOk result (λ answer. IsTrue answer ↔ All (λ member. IsReadyBy start.now staying.now member.now) members.now) }
+    ensures { IfOk result
+        (λ answer. IsTrue answer
+        ↔ All (λ member. IsReadyBy start.now staying.now member.now) members.now) }
 {
     for member in members {
         let ready = is_ready(start, staying, member)?;
@@ -141,7 +154,10 @@ pub(crate) fn are_ready(
     start: &Records<'_, '_>,
     members: &[&Pkg<'_>],
 ) -> Result<bool, AllocError>
-    ensures { IfOk result (λ answer. IsTrue answer ↔ All (IsReady start.now (map (λ member. member.now) members.now)) (map (λ member. member.now) members.now)) }
+    ensures { IfOk result
+        (λ answer. IsTrue answer
+        ↔ All (IsReady start.now (map (λ member. member.now) members.now))
+        (map (λ member. member.now) members.now)) }
 {
     let lent = staying_of(alloc, start, members)?;
     let staying = Packages::new(alloc, lent.as_slice())?;

@@ -13,7 +13,8 @@ use relation::Pkg;
 // Whether the version of the member stands, or its name isn't held.
 fn may_be_unpacked(start: &Records<'_, '_>, member: &Pkg<'_>) -> bool
     ensures { IsTrue result
-        ↔ (¬ StandsAs start.now member.now.name member.now.version → IsNotHeld start.now member.now.name) }
+        ↔ (¬ StandsAs start.now member.now.name member.now.version
+        → IsNotHeld start.now member.now.name) }
 {
     stands_as(start, member.name(), member.version()) || is_not_held(start, member.name())
 }
@@ -21,7 +22,8 @@ fn may_be_unpacked(start: &Records<'_, '_>, member: &Pkg<'_>) -> bool
 // The same of each member.
 fn all_may_be_unpacked(start: &Records<'_, '_>, members: &[&Pkg<'_>]) -> bool
     ensures { IsTrue result
-        ↔ All (λ member. ¬ StandsAs start.now member.now.name member.now.version → IsNotHeld start.now member.now.name) members.now }
+        ↔ All (λ member. ¬ StandsAs start.now member.now.name member.now.version
+        → IsNotHeld start.now member.now.name) members.now }
 {
     members.iter().all(|member| may_be_unpacked(start, member))
 }

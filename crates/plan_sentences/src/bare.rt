@@ -8,8 +8,8 @@ use std::alloc::AllocError;
 use universe::Universe;
 
 // Whether the record may be configured.
-fn is_configurable(found: &StateRecord<'_, '_>) -> bool {
-    found.state().is_unconfigured() && found.flag().is_sound()
+fn is_configurable(entry: &StateRecord<'_, '_>) -> bool {
+    entry.state().is_unconfigured() && entry.flag().is_sound()
 }
 
 // The first of the names that has no record which may be configured, or the first.
@@ -17,7 +17,7 @@ fn unconfigurable_in<'n>(db: &Records<'_, '_>, names: &'n [Name]) -> &'n [u8] {
     let mut first: &'n [u8] = &[];
     for name in names {
         match record_of(db, name.as_bytes()) {
-            Some(found) if is_configurable(found) => {
+            Some(entry) if is_configurable(entry) => {
                 if first.is_empty() {
                     first = name.as_bytes();
                 }
@@ -63,7 +63,7 @@ fn push_listed(
     let mut before: &[u8] = b"its versions that can be unpacked are ";
     let mut is_none = true;
     for pair in universe.pairs() {
-        if pair.name() == name && pair.listed().is_some() {
+        if pair.name() == name && pair.index_entry().is_some() {
             push(text, &[before, pair.version().text()])?;
             before = b", ";
             is_none = false;

@@ -10,7 +10,7 @@ use relation::Pkg;
 use rules::Reason;
 use std::alloc::AllocError;
 use universe::Universe;
-use witness::{Field, first_broken, first_unmet, own_conflict};
+use witness::{ClauseField, first_broken, first_unmet, own_conflict};
 
 // Writes which other the package conflicts with or breaks.
 fn push_at_odds(text: &mut Vec<u8>, db: &Records<'_, '_>, pkg: &Pkg<'_>) -> Result<(), AllocError> {
@@ -34,10 +34,10 @@ fn push_discontent(
     pkg: &Pkg<'_>,
 ) -> Result<(), AllocError> {
     if let Some(place) = first_unmet(db, pkg.pre_depends()) {
-        return push_unmet(text, db, pkg, Field::PreDepends, place);
+        return push_unmet(text, db, pkg, ClauseField::PreDepends, place);
     }
     if let Some(place) = first_unmet(db, pkg.depends()) {
-        return push_unmet(text, db, pkg, Field::Depends, place);
+        return push_unmet(text, db, pkg, ClauseField::Depends, place);
     }
     push_at_odds(text, db, pkg)
 }

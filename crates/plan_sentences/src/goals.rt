@@ -44,14 +44,14 @@ fn push_behind(
 
 // Whether the name is installed in this version, or in any where none is given.
 fn is_installed(db: &Records<'_, '_>, name: &[u8], version: Option<&[u8]>) -> bool {
-    let Some(found) = record_of(db, name) else {
+    let Some(entry) = record_of(db, name) else {
         return false;
     };
-    match (found.present_pkg(), version) {
+    match (entry.present_pkg(), version) {
         (None, _) => false,
-        (Some(_), None) => found.state().is_installed(),
+        (Some(_), None) => entry.state().is_installed(),
         (Some(there), Some(version)) => {
-            found.state().is_installed() && there.version().text() == version
+            entry.state().is_installed() && there.version().text() == version
         }
     }
 }

@@ -1,21 +1,35 @@
 // What the database knows of a name, in words.
 
+ghost use Rattle.std.specs.Prelude.{◌≡◌};
+ghost use Rattle.std.specs.List.{find};
+ghost use Rattle.std.specs.Option.{option_copied};
+ghost use Rattle.rules.specs.Database.{HasDistinctNames};
+ghost use Rattle.rules.specs.Step.{is_named};
+ghost use Rattle.plan_sentences.specs.Changes.{record_in};
+
 use crate::words::{push, push_record};
-use plancheck_state::{Records, StateRecord, is_same};
+use plancheck_state::{Holders, Records, StateRecord};
 use relation::{Atom, Clause, Pkg};
 use std::alloc::AllocError;
+
+// The first of the records that has the name.
+fn record_among<'v, 'p, 'a>(
+    mut holders: Holders<'v, 'p, 'a>,
+    name: &[u8],
+) -> Option<&'v StateRecord<'p, 'a>>
+    ensures { option_copied result ≡ find (is_named name.now) holders.entry }
+{
+    holders.find(|entry| entry.name() == name)
+}
 
 /// The record of the name, if there is one.
 pub(crate) fn record_of<'v, 'p, 'a>(
     db: &'v Records<'p, 'a>,
     name: &[u8],
-) -> Option<&'v StateRecord<'p, 'a>> {
-    for found in db.holders(name) {
-        if is_same(found.name(), name) {
-            return Some(found);
-        }
-    }
-    None
+) -> Option<&'v StateRecord<'p, 'a>>
+    ensures { HasDistinctNames db.now → option_copied result ≡ record_in db.now name.now }
+{
+    record_among(db.holders(name), name)
 }
 
 /// The package of the name, if it is present.
@@ -31,7 +45,7 @@ pub(crate) fn push_named(
 ) -> Result<(), AllocError> {
     match record_of(db, name) {
         None => push(text, &[name, b" is not installed"]),
-        Some(found) => push_record(text, found),
+        Some(entry) => push_record(text, entry),
     }
 }
 

@@ -6,21 +6,21 @@ use crate::words::{push_clause, push_pkg, push_record};
 use plancheck_state::Records;
 use relation::{Clause, Pkg};
 use std::alloc::AllocError;
-use witness::{Field, Way, Witness};
+use witness::{ClauseField, Direction, Witness};
 
 // The clauses of the field of the package.
-fn clauses_of<'k, 'a>(pkg: &'k Pkg<'a>, field: Field) -> &'k [Clause<'a>] {
+fn clauses_of<'k, 'a>(pkg: &'k Pkg<'a>, field: ClauseField) -> &'k [Clause<'a>] {
     match field {
-        Field::PreDepends => pkg.pre_depends(),
-        Field::Depends => pkg.depends(),
+        ClauseField::PreDepends => pkg.pre_depends(),
+        ClauseField::Depends => pkg.depends(),
     }
 }
 
 // What a package does by a clause of the field.
-fn verb_of(field: Field) -> &'static [u8] {
+fn verb_of(field: ClauseField) -> &'static [u8] {
     match field {
-        Field::PreDepends => b" pre-depends on ",
-        Field::Depends => b" depends on ",
+        ClauseField::PreDepends => b" pre-depends on ",
+        ClauseField::Depends => b" depends on ",
     }
 }
 
@@ -28,7 +28,7 @@ fn verb_of(field: Field) -> &'static [u8] {
 fn push_field(
     text: &mut Vec<u8>,
     pkg: &Pkg<'_>,
-    field: Field,
+    field: ClauseField,
     place: usize,
 ) -> Result<(), AllocError> {
     text.extend_from_slice(verb_of(field))?;
@@ -43,7 +43,7 @@ fn push_there_at(
     text: &mut Vec<u8>,
     db: &Records<'_, '_>,
     pkg: &Pkg<'_>,
-    field: Field,
+    field: ClauseField,
     place: usize,
 ) -> Result<(), AllocError> {
     match clauses_of(pkg, field).get(place) {
@@ -58,7 +58,7 @@ pub(crate) fn push_unmet(
     text: &mut Vec<u8>,
     db: &Records<'_, '_>,
     pkg: &Pkg<'_>,
-    field: Field,
+    field: ClauseField,
     place: usize,
 ) -> Result<(), AllocError> {
     push_pkg(text, pkg)?;
@@ -74,25 +74,25 @@ fn push_unsatisfied(
     place: usize,
 ) -> Result<(), AllocError> {
     push_pkg(text, pkg)?;
-    push_field(text, pkg, Field::PreDepends, place)?;
+    push_field(text, pkg, ClauseField::PreDepends, place)?;
     text.extend_from_slice(
         b", and nothing that is installed or was configured before satisfies this",
     )?;
-    push_there_at(text, db, pkg, Field::PreDepends, place)
+    push_there_at(text, db, pkg, ClauseField::PreDepends, place)
 }
 
-fn push_in_the_way(
+fn push_conflict(
     text: &mut Vec<u8>,
     db: &Records<'_, '_>,
     pkg: &Pkg<'_>,
-    way: Way,
+    direction: Direction,
     name: &[u8],
 ) -> Result<(), AllocError> {
-    match (way, record_of(db, name)) {
-        (Way::Own, Some(other)) => {
+    match (direction, record_of(db, name)) {
+        (Direction::Own, Some(other)) => {
             push_against(text, b" conflicts with ", pkg, pkg.conflicts(), other)
         }
-        (Way::Other, Some(other)) => match other.present_pkg() {
+        (Direction::Other, Some(other)) => match other.present_pkg() {
             None => Ok(()),
             Some(there) => {
                 push_against_by(text, b" conflicts with ", other, there.conflicts(), pkg)
@@ -136,7 +136,7 @@ fn push_lack(
     text: &mut Vec<u8>,
     db: &Records<'_, '_>,
     name: &[u8],
-    field: Field,
+    field: ClauseField,
     place: usize,
 ) -> Result<(), AllocError> {
     match pkg_of(db, name) {
@@ -149,7 +149,7 @@ fn push_need(
     text: &mut Vec<u8>,
     db: &Records<'_, '_>,
     name: &[u8],
-    field: Field,
+    field: ClauseField,
     place: usize,
 ) -> Result<(), AllocError> {
     let Some(other) = record_of(db, name) else {
@@ -173,8 +173,8 @@ pub(crate) fn push_witness(
 ) -> Result<(), AllocError> {
     match (witness, listed) {
         (Witness::Unsatisfied(place), Some(pkg)) => push_unsatisfied(text, db, pkg, *place),
-        (Witness::InTheWay(way, name), Some(pkg)) => {
-            push_in_the_way(text, db, pkg, *way, name.as_bytes())
+        (Witness::Conflicting(direction, name), Some(pkg)) => {
+            push_conflict(text, db, pkg, *direction, name.as_bytes())
         }
         (Witness::Broken(name), Some(pkg)) => push_broken(text, db, pkg, name.as_bytes()),
         (Witness::BrokenBy(name, breaker), _) => {

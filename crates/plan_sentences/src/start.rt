@@ -10,9 +10,9 @@ use witness::own_conflict;
 fn push_conflicting(
     text: &mut Vec<u8>,
     db: &Records<'_, '_>,
-    found: &StateRecord<'_, '_>,
+    entry: &StateRecord<'_, '_>,
 ) -> Result<bool, AllocError> {
-    let Some(pkg) = found.present_pkg() else {
+    let Some(pkg) = entry.present_pkg() else {
         return Ok(false);
     };
     let Some(name) = own_conflict(db, pkg) else {
@@ -28,8 +28,8 @@ fn push_conflicting(
 /// Writes the first two packages that conflict at the start.
 pub(crate) fn push_start(text: &mut Vec<u8>, db: &Records<'_, '_>) -> Result<(), AllocError> {
     text.extend_from_slice(b"Two packages conflict at the start (F0 StartConflict): ")?;
-    for found in db.as_slice() {
-        if push_conflicting(text, db, found)? {
+    for entry in db.as_slice() {
+        if push_conflicting(text, db, entry)? {
             return text.extend_from_slice(b".\n");
         }
     }

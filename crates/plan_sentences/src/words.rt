@@ -36,7 +36,7 @@ pub(crate) fn push_pkg(text: &mut Vec<u8>, pkg: &Pkg<'_>) -> Result<(), AllocErr
 }
 
 // The operator as relation fields have it (Policy 7.1).
-fn spelled(op: Op) -> &'static [u8] {
+fn spelling_of(op: Op) -> &'static [u8] {
     match op {
         Op::StrictlyEarlier => b"<<",
         Op::EarlierOrEqual => b"<=",
@@ -53,7 +53,7 @@ pub(crate) fn push_restriction(
     version: &[u8],
 ) -> Result<(), AllocError> {
     text.extend_from_slice(b" (")?;
-    text.extend_from_slice(spelled(op))?;
+    text.extend_from_slice(spelling_of(op))?;
     text.push(b' ')?;
     text.extend_from_slice(version)?;
     text.push(b')')?;
@@ -100,19 +100,19 @@ fn word_of(state: State) -> &'static [u8] {
 /// Writes the state of the record: `installed`.
 pub(crate) fn push_state(
     text: &mut Vec<u8>,
-    found: &StateRecord<'_, '_>,
+    entry: &StateRecord<'_, '_>,
 ) -> Result<(), AllocError> {
-    text.extend_from_slice(word_of(found.state()))?;
-    if !found.flag().is_sound() {
+    text.extend_from_slice(word_of(entry.state()))?;
+    if !entry.flag().is_sound() {
         text.extend_from_slice(b" and to be installed again")?;
     }
     Ok(())
 }
 
 /// Writes the name of the record and, of a present package, its version.
-pub(crate) fn push_name(text: &mut Vec<u8>, found: &StateRecord<'_, '_>) -> Result<(), AllocError> {
-    match found.present_pkg() {
-        None => text.extend_from_slice(found.name()),
+pub(crate) fn push_name(text: &mut Vec<u8>, entry: &StateRecord<'_, '_>) -> Result<(), AllocError> {
+    match entry.present_pkg() {
+        None => text.extend_from_slice(entry.name()),
         Some(there) => push_pkg(text, there),
     }
 }
@@ -120,11 +120,11 @@ pub(crate) fn push_name(text: &mut Vec<u8>, found: &StateRecord<'_, '_>) -> Resu
 /// Writes in which state the record is: `foo 1 is installed`.
 pub(crate) fn push_record(
     text: &mut Vec<u8>,
-    found: &StateRecord<'_, '_>,
+    entry: &StateRecord<'_, '_>,
 ) -> Result<(), AllocError> {
-    push_name(text, found)?;
+    push_name(text, entry)?;
     text.extend_from_slice(b" is ")?;
-    push_state(text, found)
+    push_state(text, entry)
 }
 
 /// The code and the name of the rule, as a verdict is printed.

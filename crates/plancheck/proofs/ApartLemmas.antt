@@ -7,7 +7,7 @@ use Rattle.rules.specs.Database.{Record, IsInstalled, IsPresent, pkg_of}
 use Rattle.rules.specs.ElementLaws.{All-intro, Any-elim, Any-intro}
 use Rattle.rules.specs.Package.{Atom, BreaksOther, ConflictsWith, Matches, MatchesSome, Pkg}
 use Rattle.rules.specs.Unpack.{BreaksNone, HasNoConflict, IsCompatible}
-use Rattle.plancheck.specs.Apart.{ArePeaceful, IsApart}
+use Rattle.plancheck.specs.Apart.{NoOtherConflicts, IsApart}
 use Rattle.plancheck.proofs.QuietLemmas.{DoesNotMatch}
 
 -- a package breaks none where each of its atoms matches none
@@ -32,14 +32,14 @@ CompatibleWith pkg other =
 
 -- nothing conflicts either way where each of its atoms matches none and no other conflicts with it
 pub no_conflict_by_ways : (db : List Record) (pkg : Pkg)
-    → All (λ atom. All (λ other. DoesNotMatch pkg other atom) db) pkg.relations.conflicts → ArePeaceful db pkg → HasNoConflict db pkg
+    → All (λ atom. All (λ other. DoesNotMatch pkg other atom) db) pkg.relations.conflicts → NoOtherConflicts db pkg → HasNoConflict db pkg
 unfolding HasNoConflict IsCompatible ConflictsWith MatchesSome
-no_conflict_by_ways db pkg all peaceful = All-intro (CompatibleWith pkg) db (λ other there apart is. (
+no_conflict_by_ways db pkg all none_conflicts = All-intro (CompatibleWith pkg) db (λ other there apart is. (
   λ some. Any-elim (Matches (pkg_of other)) pkg.relations.conflicts ⊥ (λ atom within matches.
       All-contains (λ (o : Record). DoesNotMatch pkg o atom) db other
       (All-contains (λ atom. All (λ (o : Record). DoesNotMatch pkg o atom) db) pkg.relations.conflicts atom all within) there is
       (λ same. apart (sym same)) matches) some,
-  All-contains (λ other. other.name ≢ pkg.name → IsPresent other → ¬ MatchesSome pkg other.relations.conflicts) db other peaceful there apart is,
+  All-contains (λ other. other.name ≢ pkg.name → IsPresent other → ¬ MatchesSome pkg other.relations.conflicts) db other none_conflicts there apart is,
 ))
 
 -- then each of its atoms matches none
@@ -52,7 +52,7 @@ own_ways db pkg none = All-intro (λ atom. All (λ (other : Record). DoesNotMatc
     (Any-intro (Matches (pkg_of other)) pkg.relations.conflicts atom within matches)))
 
 -- and no other conflicts with it
-pub others_ways : (db : List Record) (pkg : Pkg) → HasNoConflict db pkg → ArePeaceful db pkg
+pub others_ways : (db : List Record) (pkg : Pkg) → HasNoConflict db pkg → NoOtherConflicts db pkg
 unfolding HasNoConflict IsCompatible
 others_ways db pkg none = All-intro (λ other. other.name ≢ pkg.name → IsPresent other → ¬ ConflictsWith (pkg_of other) pkg) db
     (λ other there apart is. (All-contains (CompatibleWith pkg) db other none there apart is).1)

@@ -8,24 +8,24 @@ use Rattle.plancheck_state.specs.HolderLaws.{matching-holds, named-holds, provid
 use Rattle.plancheck_state.specs.Holders.{is_holder}
 
 -- what fits then and now has the name or provides it
-then-and-now-holds : (found : Record) (atom : Atom) (version : List ℕ) → FitsThenAndNow found atom version → is_holder atom.name found ≡ true
+then-and-now-holds : (entry : Record) (atom : Atom) (version : List ℕ) → FitsThenAndNow entry atom version → is_holder atom.name entry ≡ true
 unfolding FitsThenAndNow
-then-and-now-holds found atom version fits = elim fits [
-  | inl own ↦ named-holds atom.name found own.0
-  | inr provided ↦ providing-holds found atom provided
+then-and-now-holds entry atom version fits = elim fits [
+  | inl own ↦ named-holds atom.name entry own.0
+  | inr provided ↦ providing-holds entry atom provided
 ]
 
-from-before-holds : (found : Record) (atom : Atom) → FitsFromBefore found atom → is_holder atom.name found ≡ true
+from-before-holds : (entry : Record) (atom : Atom) → FitsFromBefore entry atom → is_holder atom.name entry ≡ true
 unfolding FitsFromBefore
-from-before-holds found atom fits = by (last_configured found) fits.1
+from-before-holds entry atom fits = by (last_configured entry) fits.1
   where
-    by : (version : Option (List ℕ)) → MatchOption version ⊥ (FitsThenAndNow found atom) → is_holder atom.name found ≡ true
+    by : (version : Option (List ℕ)) → MatchOption version ⊥ (FitsThenAndNow entry atom) → is_holder atom.name entry ≡ true
     by None never = absurd never
-    by (Some version) fits = then-and-now-holds found atom version fits
+    by (Some version) fits = then-and-now-holds entry atom version fits
 
-pub satisfying-holds : (found : Record) (atom : Atom) → SatisfiesAtom found atom → is_holder atom.name found ≡ true
+pub satisfying-holds : (entry : Record) (atom : Atom) → SatisfiesAtom entry atom → is_holder atom.name entry ≡ true
 unfolding SatisfiesAtom
-satisfying-holds found atom satisfies = elim satisfies.1 [
-  | inl installed ↦ matching-holds found atom installed.1
-  | inr before ↦ from-before-holds found atom before
+satisfying-holds entry atom satisfies = elim satisfies.1 [
+  | inl installed ↦ matching-holds entry atom installed.1
+  | inr before ↦ from-before-holds entry atom before
 ]

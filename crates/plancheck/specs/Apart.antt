@@ -4,8 +4,8 @@ use Rattle.rules.specs.Database.{ForOthers, IsInstalled, IsPresent, Record, pkg_
 use Rattle.rules.specs.Package.{Atom, ConflictsWith, Matches, Pkg}
 
 -- no present package of another name conflicts with the package
-abbrev pub ArePeaceful : List Record → Pkg → Type 0
-ArePeaceful db pkg = ForOthers (λ other. IsPresent other → ¬ ConflictsWith (pkg_of other) pkg) pkg.name db
+abbrev pub NoOtherConflicts : List Record → Pkg → Type 0
+NoOtherConflicts db pkg = ForOthers (λ other. IsPresent other → ¬ ConflictsWith (pkg_of other) pkg) pkg.name db
 
 -- the record, if it is installed and of another name, doesn't match the atom
 abbrev pub IsApart : Pkg → Record → Atom → Type 0

@@ -30,7 +30,7 @@ fn run<'p, 'a>(
     requires stanzas { stanzas.now ≡ map (listed_for universe.now) steps.now }
     ensures { IfOk result (λ stop. MatchOption stop
         (Run universe.now db.old steps.now db.new)
-        (λ found. StopsAt universe.now db.old steps.now found.0 found.1)) }
+        (λ failing. StopsAt universe.now db.old steps.now failing.0 failing.1)) }
 {
     let mut number = 0;
     for step in steps {

@@ -10,16 +10,16 @@ ghost use Rattle.rules.specs.Version.{SameVersion};
 use debversion::Version;
 use plancheck_state::{Holders, Records, StateRecord, is_same};
 
-fn is_held_name(found: &StateRecord<'_, '_>, name: &[u8]) -> bool
-    ensures { IsTrue result ↔ ((found.now.name ≡ name.now) × IsHeld found.now) }
+fn is_held_name(entry: &StateRecord<'_, '_>, name: &[u8]) -> bool
+    ensures { IsTrue result ↔ ((entry.now.name ≡ name.now) × IsHeld entry.now) }
 {
-    is_same(found.name(), name) && found.want().is_hold()
+    is_same(entry.name(), name) && entry.want().is_hold()
 }
 
-fn some_is_held(mut found: Holders<'_, '_, '_>, name: &[u8]) -> bool
-    ensures { IsTrue result ↔ HasRecord IsHeld name.now found.entry }
+fn some_is_held(mut holders: Holders<'_, '_, '_>, name: &[u8]) -> bool
+    ensures { IsTrue result ↔ HasRecord IsHeld name.now holders.entry }
 {
-    found.any(|found| is_held_name(found, name))
+    holders.any(|entry| is_held_name(entry, name))
 }
 
 fn has_hold(db: &Records<'_, '_>, name: &[u8]) -> bool
@@ -37,27 +37,29 @@ pub fn is_not_held(db: &Records<'_, '_>, name: &[u8]) -> bool
 }
 
 // Whether the package of the record has this version.
-fn is_version(found: &StateRecord<'_, '_>, version: &Version<'_>) -> bool
-    ensures { IsTrue result ↔ (Stands found.now × SameVersion found.now.version version.now) }
+fn is_version(entry: &StateRecord<'_, '_>, version: &Version<'_>) -> bool
+    ensures { IsTrue result ↔ (Stands entry.now × SameVersion entry.now.version version.now) }
 {
-    match found.present_pkg() {
-        Some(there) => found.stands() && there.version() == version,
+    match entry.present_pkg() {
+        Some(there) => entry.stands() && there.version() == version,
         None => false,
     }
 }
 
-fn is_named_version(found: &StateRecord<'_, '_>, name: &[u8], version: &Version<'_>) -> bool
+fn is_named_version(entry: &StateRecord<'_, '_>, name: &[u8], version: &Version<'_>) -> bool
     ensures { IsTrue result
-        ↔ ((found.now.name ≡ name.now) × (Stands found.now × SameVersion found.now.version version.now)) }
+        ↔ ((entry.now.name ≡ name.now)
+        × (Stands entry.now × SameVersion entry.now.version version.now)) }
 {
-    is_same(found.name(), name) && is_version(found, version)
+    is_same(entry.name(), name) && is_version(entry, version)
 }
 
-fn some_stands_as(mut found: Holders<'_, '_, '_>, name: &[u8], version: &Version<'_>) -> bool
+fn some_stands_as(mut holders: Holders<'_, '_, '_>, name: &[u8], version: &Version<'_>) -> bool
     ensures { IsTrue result
-        ↔ HasRecord (λ found. Stands found × SameVersion found.version version.now) name.now found.entry }
+        ↔ HasRecord (λ entry. Stands entry
+        × SameVersion entry.version version.now) name.now holders.entry }
 {
-    found.any(|found| is_named_version(found, name, version))
+    holders.any(|entry| is_named_version(entry, name, version))
 }
 
 /// Whether the name stands in this version. Linear in the records that have or provide the name.

@@ -2,7 +2,7 @@
 
 ghost use Rattle.std.specs.Prelude.{◌≡◌, ◌≢◌, ◌↔◌, IsTrue};
 ghost use Rattle.std.specs.List.{All};
-ghost use Rattle.rules.specs.Database.{IsAtPeaceWith, IsPresent, IsQuiet, pkg_of};
+ghost use Rattle.rules.specs.Database.{HasNoConflictWith, IsPresent, IsQuiet, pkg_of};
 ghost use Rattle.rules.specs.Package.{Matches};
 
 use plancheck_state::{Holders, Records, StateRecord, is_same};
@@ -10,7 +10,9 @@ use relation::{Atom, Pkg};
 
 // Whether the record isn't present, has the package's name, or doesn't match the atom.
 fn does_not_match(pkg: &Pkg<'_>, atom: &Atom<'_>, other: &StateRecord<'_, '_>) -> bool
-    ensures { IsTrue result ↔ (IsPresent other.now → pkg.now.name ≢ other.now.name → ¬ Matches (pkg_of other.now) atom.now) }
+    ensures { IsTrue result
+        ↔ (IsPresent other.now → pkg.now.name ≢ other.now.name
+        → ¬ Matches (pkg_of other.now) atom.now) }
 {
     match other.present_pkg() {
         None => true,
@@ -42,10 +44,10 @@ pub(crate) fn no_atom_matches(db: &Records<'_, '_>, pkg: &Pkg<'_>, atoms: &[Atom
 }
 
 // Whether the package of the record, if it is present, isn't in conflict with any other.
-fn conflicts_with_none(db: &Records<'_, '_>, found: &StateRecord<'_, '_>) -> bool
-    ensures { IsTrue result ↔ All (IsAtPeaceWith found.now) db.now }
+fn conflicts_with_none(db: &Records<'_, '_>, entry: &StateRecord<'_, '_>) -> bool
+    ensures { IsTrue result ↔ All (HasNoConflictWith entry.now) db.now }
 {
-    match found.present_pkg() {
+    match entry.present_pkg() {
         None => true,
         Some(pkg) => no_atom_matches(db, pkg, pkg.conflicts()),
     }
@@ -59,5 +61,5 @@ pub fn is_quiet(db: &Records<'_, '_>) -> bool
 {
     db.as_slice()
         .iter()
-        .all(|found| conflicts_with_none(db, found))
+        .all(|entry| conflicts_with_none(db, entry))
 }

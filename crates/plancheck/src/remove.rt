@@ -9,35 +9,38 @@ ghost use Rattle.rules.specs.Remove.{IsNeededByNone, IsNotNeeded, IsMetWithout, 
 use plancheck_state::{Holders, Records, StateRecord, is_same, matches_some};
 use relation::{Atom, Clause, Pkg};
 
-fn is_present_and_sound(found: &StateRecord<'_, '_>, name: &[u8]) -> bool
-    ensures { IsTrue result ↔ ((found.now.name ≡ name.now) × (IsPresent found.now × HasSoundFlag found.now)) }
+fn is_present_and_sound(entry: &StateRecord<'_, '_>, name: &[u8]) -> bool
+    ensures { IsTrue result
+        ↔ ((entry.now.name ≡ name.now) × (IsPresent entry.now × HasSoundFlag entry.now)) }
 {
-    is_same(found.name(), name) && found.state().is_present() && found.flag().is_sound()
+    is_same(entry.name(), name) && entry.state().is_present() && entry.flag().is_sound()
 }
 
-fn some_can_be_removed(mut found: Holders<'_, '_, '_>, name: &[u8]) -> bool
-    ensures { IsTrue result ↔ HasRecord (λ found. IsPresent found × HasSoundFlag found) name.now found.entry }
+fn some_can_be_removed(mut holders: Holders<'_, '_, '_>, name: &[u8]) -> bool
+    ensures { IsTrue result
+        ↔ HasRecord (λ entry. IsPresent entry × HasSoundFlag entry) name.now holders.entry }
 {
-    found.any(|found| is_present_and_sound(found, name))
+    holders.any(|entry| is_present_and_sound(entry, name))
 }
 
 /// Whether the name is present with flag ok. Linear in the records that have or provide it.
 pub fn can_be_removed(db: &Records<'_, '_>, name: &[u8]) -> bool
-    ensures { IsTrue result ↔ HasRecord (λ found. IsPresent found × HasSoundFlag found) name.now db.now }
+    ensures { IsTrue result
+        ↔ HasRecord (λ entry. IsPresent entry × HasSoundFlag entry) name.now db.now }
 {
     some_can_be_removed(db.holders(name), name)
 }
 
-fn is_essential_name(found: &StateRecord<'_, '_>, name: &[u8]) -> bool
-    ensures { IsTrue result ↔ ((found.now.name ≡ name.now) × IsEssential found.now) }
+fn is_essential_name(entry: &StateRecord<'_, '_>, name: &[u8]) -> bool
+    ensures { IsTrue result ↔ ((entry.now.name ≡ name.now) × IsEssential entry.now) }
 {
-    is_same(found.name(), name) && found.is_essential()
+    is_same(entry.name(), name) && entry.is_essential()
 }
 
-fn some_is_essential(mut found: Holders<'_, '_, '_>, name: &[u8]) -> bool
-    ensures { IsTrue result ↔ HasRecord IsEssential name.now found.entry }
+fn some_is_essential(mut holders: Holders<'_, '_, '_>, name: &[u8]) -> bool
+    ensures { IsTrue result ↔ HasRecord IsEssential name.now holders.entry }
 {
-    found.any(|found| is_essential_name(found, name))
+    holders.any(|entry| is_essential_name(entry, name))
 }
 
 /// Whether the name is essential. Linear in the records that have or provide it.
@@ -47,16 +50,16 @@ pub fn is_essential(db: &Records<'_, '_>, name: &[u8]) -> bool
     some_is_essential(db.holders(name), name)
 }
 
-fn is_installed_name(found: &StateRecord<'_, '_>, name: &[u8]) -> bool
-    ensures { IsTrue result ↔ ((found.now.name ≡ name.now) × IsInstalled found.now) }
+fn is_installed_name(entry: &StateRecord<'_, '_>, name: &[u8]) -> bool
+    ensures { IsTrue result ↔ ((entry.now.name ≡ name.now) × IsInstalled entry.now) }
 {
-    is_same(found.name(), name) && found.state().is_installed()
+    is_same(entry.name(), name) && entry.state().is_installed()
 }
 
-fn some_is_installed(mut found: Holders<'_, '_, '_>, name: &[u8]) -> bool
-    ensures { IsTrue result ↔ HasRecord IsInstalled name.now found.entry }
+fn some_is_installed(mut holders: Holders<'_, '_, '_>, name: &[u8]) -> bool
+    ensures { IsTrue result ↔ HasRecord IsInstalled name.now holders.entry }
 {
-    found.any(|found| is_installed_name(found, name))
+    holders.any(|entry| is_installed_name(entry, name))
 }
 
 /// Whether the name is installed. Linear in the records that have or provide it.
@@ -66,16 +69,16 @@ pub fn is_installed(db: &Records<'_, '_>, name: &[u8]) -> bool
     some_is_installed(db.holders(name), name)
 }
 
-fn is_removed_name(found: &StateRecord<'_, '_>, name: &[u8]) -> bool
-    ensures { IsTrue result ↔ ((found.now.name ≡ name.now) × IsRemoved found.now) }
+fn is_removed_name(entry: &StateRecord<'_, '_>, name: &[u8]) -> bool
+    ensures { IsTrue result ↔ ((entry.now.name ≡ name.now) × IsRemoved entry.now) }
 {
-    is_same(found.name(), name) && found.state().is_removed()
+    is_same(entry.name(), name) && entry.state().is_removed()
 }
 
-fn some_is_removed(mut found: Holders<'_, '_, '_>, name: &[u8]) -> bool
-    ensures { IsTrue result ↔ HasRecord IsRemoved name.now found.entry }
+fn some_is_removed(mut holders: Holders<'_, '_, '_>, name: &[u8]) -> bool
+    ensures { IsTrue result ↔ HasRecord IsRemoved name.now holders.entry }
 {
-    found.any(|found| is_removed_name(found, name))
+    holders.any(|entry| is_removed_name(entry, name))
 }
 
 /// Whether configuration files alone are left of the name. Linear in the records that have or provide it.
@@ -119,7 +122,8 @@ fn some_stands_in_atoms(db: &Records<'_, '_>, name: &[u8], atoms: &[Atom<'_>]) -
 
 fn some_stands_in(db: &Records<'_, '_>, name: &[u8], clause: &Clause<'_>) -> bool
     ensures { IsTrue result
-        ↔ SomeOther (λ other. Stands other × MatchesSome (pkg_of other) clause.now) name.now db.now }
+        ↔ SomeOther (λ other. Stands other
+        × MatchesSome (pkg_of other) clause.now) name.now db.now }
 {
     some_stands_in_atoms(db, name, clause.as_slice())
 }
@@ -158,7 +162,9 @@ fn is_other_or_managed_without(
     removed: &StateRecord<'_, '_>,
     clause: &Clause<'_>,
 ) -> bool
-    ensures { IsTrue result ↔ (removed.now.name ≡ name.now → IsPresent removed.now → IsMetWithout db.now removed.now clause.now) }
+    ensures { IsTrue result
+        ↔ (removed.now.name ≡ name.now → IsPresent removed.now
+        → IsMetWithout db.now removed.now clause.now) }
 {
     match removed.present_pkg() {
         None => true,
@@ -174,7 +180,9 @@ fn are_others_or_managed_without(
     name: &[u8],
     clause: &Clause<'_>,
 ) -> bool
-    ensures { IsTrue result ↔ All (λ removed. removed.name ≡ name.now → IsPresent removed → IsMetWithout db.now removed clause.now) removed.entry }
+    ensures { IsTrue result
+        ↔ All (λ removed. removed.name ≡ name.now → IsPresent removed
+        → IsMetWithout db.now removed clause.now) removed.entry }
 {
     removed.all(|removed| is_other_or_managed_without(db, name, removed, clause))
 }
@@ -184,7 +192,8 @@ fn are_others_or_managed_without(
 /// that one clause. For each of its atoms linear in the records that have or provide the atom's name.
 pub fn is_met_without(db: &Records<'_, '_>, name: &[u8], clause: &Clause<'_>) -> bool
     ensures { IsTrue result
-        ↔ All (λ removed. removed.name ≡ name.now → IsPresent removed → IsMetWithout db.now removed clause.now) db.now }
+        ↔ All (λ removed. removed.name ≡ name.now → IsPresent removed
+        → IsMetWithout db.now removed clause.now) db.now }
 {
     are_others_or_managed_without(db, db.holders(name), name, clause)
 }
@@ -225,7 +234,8 @@ fn is_own_or_needs_not(
     other: &StateRecord<'_, '_>,
 ) -> bool
     requires { there.now ≡ pkg_of removed.now }
-    ensures { IsTrue result ↔ (other.now.name ≢ removed.now.name → NeedsNot db.now removed.now other.now) }
+    ensures { IsTrue result
+        ↔ (other.now.name ≢ removed.now.name → NeedsNot db.now removed.now other.now) }
 {
     needs_not(db, removed, there, other) || is_same(other.name(), removed.name())
 }
@@ -242,7 +252,9 @@ fn is_expendable(db: &Records<'_, '_>, removed: &StateRecord<'_, '_>, there: &Pk
 }
 
 fn is_other_or_expendable(db: &Records<'_, '_>, name: &[u8], removed: &StateRecord<'_, '_>) -> bool
-    ensures { IsTrue result ↔ (removed.now.name ≡ name.now → IsPresent removed.now → IsNeededByNone db.now removed.now) }
+    ensures { IsTrue result
+        ↔ (removed.now.name ≡ name.now → IsPresent removed.now
+        → IsNeededByNone db.now removed.now) }
 {
     match removed.present_pkg() {
         None => true,
@@ -255,7 +267,9 @@ fn are_others_or_expendable(
     mut removed: Holders<'_, '_, '_>,
     name: &[u8],
 ) -> bool
-    ensures { IsTrue result ↔ All (λ removed. removed.name ≡ name.now → IsPresent removed → IsNeededByNone db.now removed) removed.entry }
+    ensures { IsTrue result
+        ↔ All (λ removed. removed.name ≡ name.now → IsPresent removed
+        → IsNeededByNone db.now removed) removed.entry }
 {
     removed.all(|removed| is_other_or_expendable(db, name, removed))
 }

@@ -76,7 +76,8 @@ pub fn stanza_at<'p, 'a>(
     place: usize,
 ) -> Option<&'p IndexPackage<'a>>
     requires { place < length stanzas.now }
-    ensures { (none : Option IndexPackageValue) → option_copied result ≡ get_or stanzas.now place none }
+    ensures { (none : Option IndexPackageValue) → option_copied result
+        ≡ get_or stanzas.now place none }
 {
     stanzas[place].as_ref()
 }

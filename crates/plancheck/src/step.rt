@@ -76,7 +76,9 @@ fn unpack_listed<'p, 'a>(
 ) -> Result<(), AllocError>
     requires { HasDistinctNames db.old }
     ensures unchanged { OnErr result (db.new ≡ db.old) }
-    ensures unpacked { IfOk result (λ _. db.new ≡ option_map_or (λ found. after_unpack found db.old) (option_copied listed.entry) db.old) }
+    ensures unpacked { IfOk result
+        (λ _. db.new ≡ option_map_or (λ listed. after_unpack listed db.old)
+        (option_copied listed.entry) db.old) }
 {
     if let Some(listed) = listed {
         db.unpack(listed)?;

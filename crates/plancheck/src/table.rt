@@ -27,7 +27,8 @@ fn unpack_keeps(
     version: &Version<'_>,
     rule: Rule,
 ) -> bool
-    ensures { IsTrue result ↔ UnpackAsks (option_copied listed.entry) db.now name.now version.now rule }
+    ensures { IsTrue result
+        ↔ UnpackAsks (option_copied listed.entry) db.now name.now version.now rule }
 {
     match (rule, listed) {
         (Rule::NotAdmitted, listed) => listed.is_some(),
@@ -81,8 +82,10 @@ pub fn unpack_failing(
     name: &[u8],
     version: &Version<'_>,
 ) -> Option<Rule>
-    ensures { MatchOption result (All (UnpackAsks (option_copied listed.entry) db.now name.now version.now) unpack_rules)
-        (λ rule. IsFirstUnkept (UnpackAsks (option_copied listed.entry) db.now name.now version.now) unpack_rules rule) }
+    ensures { MatchOption result
+        (All (UnpackAsks (option_copied listed.entry) db.now name.now version.now) unpack_rules)
+        (λ rule. IsFirstUnkept
+        (UnpackAsks (option_copied listed.entry) db.now name.now version.now) unpack_rules rule) }
 {
     for rule in [
         Rule::NotAdmitted,
@@ -173,7 +176,8 @@ pub fn configure_failing(
     db: &Records<'_, '_>,
     names: &[Name],
 ) -> Result<Option<Rule>, AllocError>
-    ensures { IfOk result (λ failing. MatchOption failing (All (ConfigureAsks db.now names.now) configure_rules)
+    ensures { IfOk result
+        (λ failing. MatchOption failing (All (ConfigureAsks db.now names.now) configure_rules)
         (λ rule. IsFirstUnkept (ConfigureAsks db.now names.now) configure_rules rule)) }
 {
     for rule in [

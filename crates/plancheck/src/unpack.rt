@@ -5,7 +5,7 @@ ghost use Rattle.std.specs.List.{All, Any};
 ghost use Rattle.rules.specs.Database.{IsInstalled, IsPresent, SomeOther, pkg_of};
 ghost use Rattle.rules.specs.Package.{ConflictsWith, Matches};
 ghost use Rattle.rules.specs.Unpack.{BreaksNone, FitsFromBefore, FitsThenAndNow, HasNoConflict, HasPreDepends, IsSatisfied, SatisfiesAtom};
-ghost use Rattle.plancheck.specs.Apart.{ArePeaceful, IsApart};
+ghost use Rattle.plancheck.specs.Apart.{NoOtherConflicts, IsApart};
 
 use crate::quiet::no_atom_matches;
 use debversion::Version;
@@ -15,13 +15,13 @@ use relation::{Atom, Clause, Pkg};
 // Whether the record fits the atom as it is now and as it was when this version of it was configured.
 #[tactic(auto, unfolding(rules::specs::Unpack::FitsThenAndNow))]
 fn fits_then_and_now(
-    found: &StateRecord<'_, '_>,
+    entry: &StateRecord<'_, '_>,
     there: &Pkg<'_>,
     atom: &Atom<'_>,
     configured: &Version<'_>,
 ) -> bool
-    requires { there.now ≡ pkg_of found.now }
-    ensures { IsTrue result ↔ FitsThenAndNow found.now atom.now configured.now }
+    requires { there.now ≡ pkg_of entry.now }
+    ensures { IsTrue result ↔ FitsThenAndNow entry.now atom.now configured.now }
 {
     (is_same(there.name(), atom.name()) && atom.met_by(there.version()) && atom.met_by(configured))
         || atom.provided_by(there)
@@ -29,12 +29,12 @@ fn fits_then_and_now(
 
 // Whether the record is unconfigured, was configured before, and fits the atom.
 #[tactic(auto, unfolding(rules::specs::Unpack::FitsFromBefore))]
-fn fits_from_before(found: &StateRecord<'_, '_>, atom: &Atom<'_>) -> bool
-    ensures { IsTrue result ↔ FitsFromBefore found.now atom.now }
+fn fits_from_before(entry: &StateRecord<'_, '_>, atom: &Atom<'_>) -> bool
+    ensures { IsTrue result ↔ FitsFromBefore entry.now atom.now }
 {
-    match found.present_pkg() {
-        Some(there) if found.state().is_unconfigured() => match found.last_configured() {
-            Some(configured) => fits_then_and_now(found, there, atom, &configured),
+    match entry.present_pkg() {
+        Some(there) if entry.state().is_unconfigured() => match entry.last_configured() {
+            Some(configured) => fits_then_and_now(entry, there, atom, &configured),
             None => false,
         },
         _ => false,
@@ -42,31 +42,32 @@ fn fits_from_before(found: &StateRecord<'_, '_>, atom: &Atom<'_>) -> bool
 }
 
 // Whether the record is installed and matches the atom.
-fn matches_installed(found: &StateRecord<'_, '_>, atom: &Atom<'_>) -> bool
-    ensures { IsTrue result ↔ (IsInstalled found.now × Matches (pkg_of found.now) atom.now) }
+fn matches_installed(entry: &StateRecord<'_, '_>, atom: &Atom<'_>) -> bool
+    ensures { IsTrue result ↔ (IsInstalled entry.now × Matches (pkg_of entry.now) atom.now) }
 {
-    match found.present_pkg() {
-        Some(there) if found.state().is_installed() => atom.matched_by(there),
+    match entry.present_pkg() {
+        Some(there) if entry.state().is_installed() => atom.matched_by(there),
         _ => false,
     }
 }
 
 // Whether the record satisfies the atom of a Pre-Depends.
 #[tactic(auto, unfolding(rules::specs::Unpack::SatisfiesAtom))]
-fn satisfies_atom(found: &StateRecord<'_, '_>, atom: &Atom<'_>) -> bool
-    ensures { IsTrue result ↔ SatisfiesAtom found.now atom.now }
+fn satisfies_atom(entry: &StateRecord<'_, '_>, atom: &Atom<'_>) -> bool
+    ensures { IsTrue result ↔ SatisfiesAtom entry.now atom.now }
 {
-    !atom.is_foreign() && (matches_installed(found, atom) || fits_from_before(found, atom))
+    !atom.is_foreign() && (matches_installed(entry, atom) || fits_from_before(entry, atom))
 }
 
-fn is_other_and_satisfies(found: &StateRecord<'_, '_>, name: &[u8], atom: &Atom<'_>) -> bool
-    ensures { IsTrue result ↔ ((found.now.name ≢ name.now) × SatisfiesAtom found.now atom.now) }
+fn is_other_and_satisfies(entry: &StateRecord<'_, '_>, name: &[u8], atom: &Atom<'_>) -> bool
+    ensures { IsTrue result ↔ ((entry.now.name ≢ name.now) × SatisfiesAtom entry.now atom.now) }
 {
-    !is_same(found.name(), name) && satisfies_atom(found, atom)
+    !is_same(entry.name(), name) && satisfies_atom(entry, atom)
 }
 
 fn some_other_satisfies(mut others: Holders<'_, '_, '_>, name: &[u8], atom: &Atom<'_>) -> bool
-    ensures { IsTrue result ↔ SomeOther (λ other. SatisfiesAtom other atom.now) name.now others.entry }
+    ensures { IsTrue result
+        ↔ SomeOther (λ other. SatisfiesAtom other atom.now) name.now others.entry }
 {
     others.any(|other| is_other_and_satisfies(other, name, atom))
 }
@@ -101,9 +102,10 @@ pub fn has_pre_depends(db: &Records<'_, '_>, pkg: &Pkg<'_>) -> bool
 }
 
 // Whether the package of the record, if it is present and of another name, doesn't conflict with the package.
-fn is_own_or_peaceful(pkg: &Pkg<'_>, other: &StateRecord<'_, '_>) -> bool
+fn does_not_conflict(pkg: &Pkg<'_>, other: &StateRecord<'_, '_>) -> bool
     ensures { IsTrue result
-        ↔ (other.now.name ≢ pkg.now.name → IsPresent other.now → ¬ ConflictsWith (pkg_of other.now) pkg.now) }
+        ↔ (other.now.name ≢ pkg.now.name → IsPresent other.now
+        → ¬ ConflictsWith (pkg_of other.now) pkg.now) }
 {
     match other.present_pkg() {
         None => true,
@@ -112,12 +114,12 @@ fn is_own_or_peaceful(pkg: &Pkg<'_>, other: &StateRecord<'_, '_>) -> bool
 }
 
 // Whether no present package of another name conflicts with the package.
-fn are_others_peaceful(db: &Records<'_, '_>, pkg: &Pkg<'_>) -> bool
-    ensures { IsTrue result ↔ ArePeaceful db.now pkg.now }
+fn no_other_conflicts(db: &Records<'_, '_>, pkg: &Pkg<'_>) -> bool
+    ensures { IsTrue result ↔ NoOtherConflicts db.now pkg.now }
 {
     db.as_slice()
         .iter()
-        .all(|other| is_own_or_peaceful(pkg, other))
+        .all(|other| does_not_conflict(pkg, other))
 }
 
 /// Whether no present package of another name conflicts with the package, either way. For each of its Conflicts atoms
@@ -125,7 +127,7 @@ fn are_others_peaceful(db: &Records<'_, '_>, pkg: &Pkg<'_>) -> bool
 pub fn has_no_conflict(db: &Records<'_, '_>, pkg: &Pkg<'_>) -> bool
     ensures { IsTrue result ↔ HasNoConflict db.now pkg.now }
 {
-    no_atom_matches(db, pkg, pkg.conflicts()) && are_others_peaceful(db, pkg)
+    no_atom_matches(db, pkg, pkg.conflicts()) && no_other_conflicts(db, pkg)
 }
 
 // Whether the record isn't installed, has the package's name, or doesn't match the atom.
@@ -153,7 +155,8 @@ fn is_atom_apart(db: &Records<'_, '_>, pkg: &Pkg<'_>, atom: &Atom<'_>) -> bool
 }
 
 fn are_atoms_apart(db: &Records<'_, '_>, pkg: &Pkg<'_>, atoms: &[Atom<'_>]) -> bool
-    ensures { IsTrue result ↔ All (λ atom. All (λ other. IsApart pkg.now other atom) db.now) atoms.now }
+    ensures { IsTrue result
+        ↔ All (λ atom. All (λ other. IsApart pkg.now other atom) db.now) atoms.now }
 {
     atoms.iter().all(|atom| is_atom_apart(db, pkg, atom))
 }

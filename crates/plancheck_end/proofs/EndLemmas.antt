@@ -22,7 +22,7 @@ use Rattle.plancheck_end.specs.Least.{IsLeastWithout}
 
 -- the record isn't installed or its package is content
 abbrev IsSettled : List Record → Record → Type 0
-IsSettled db found = IsInstalled found → HasItsRelations (installed_of db) (pkg_of found)
+IsSettled db entry = IsInstalled entry → HasItsRelations (installed_of db) (pkg_of entry)
 
 -- what a test doesn't fail, it passes
 not_failed : (b : Bool) → ¬ (¬ IsTrue b) → IsTrue b
@@ -51,78 +51,78 @@ none_lacks P name_of items name all some = Any-elim (λ item. (name_of item ≡ 
 
 -- a name is unfinished where its record isn't finished
 unfinished_lacks : (db : List Record) (name : List ℕ) → HasRecord IsUnfinished name db
-    → Any (λ (found : Record). (found.name ≡ name) × ¬ (¬ IsUnfinished found)) db
-unfinished_lacks db name has = Any-weaker (λ (found : Record). (found.name ≡ name) × IsUnfinished found)
-    (λ (found : Record). (found.name ≡ name) × ¬ (¬ IsUnfinished found)) db
-    (λ found within both. (both.0, λ finished. finished both.1)) has
+    → Any (λ (entry : Record). (entry.name ≡ name) × ¬ (¬ IsUnfinished entry)) db
+unfinished_lacks db name has = Any-weaker (λ (entry : Record). (entry.name ≡ name) × IsUnfinished entry)
+    (λ (entry : Record). (entry.name ≡ name) × ¬ (¬ IsUnfinished entry)) db
+    (λ entry within both. (both.0, λ finished. finished both.1)) has
 
 lacks_unfinished : (db : List Record) (name : List ℕ)
-    → Any (λ (found : Record). (found.name ≡ name) × ¬ (¬ IsUnfinished found)) db → HasRecord IsUnfinished name db
-lacks_unfinished db name some = Any-weaker (λ (found : Record). (found.name ≡ name) × ¬ (¬ IsUnfinished found))
-    (λ (found : Record). (found.name ≡ name) × IsUnfinished found) db
-    (λ found within both. (both.0, not_failed (is_unfinished found) both.1)) some
+    → Any (λ (entry : Record). (entry.name ≡ name) × ¬ (¬ IsUnfinished entry)) db → HasRecord IsUnfinished name db
+lacks_unfinished db name some = Any-weaker (λ (entry : Record). (entry.name ≡ name) × ¬ (¬ IsUnfinished entry))
+    (λ (entry : Record). (entry.name ≡ name) × IsUnfinished entry) db
+    (λ entry within both. (both.0, not_failed (is_unfinished entry) both.1)) some
 
 -- a name is discontent where its record isn't settled
 discontent_lacks : (db : List Record) (name : List ℕ) → HasRecord (LacksARelation db) name db
-    → Any (λ (found : Record). (found.name ≡ name) × ¬ IsSettled db found) db
+    → Any (λ (entry : Record). (entry.name ≡ name) × ¬ IsSettled db entry) db
 unfolding LacksARelation
 discontent_lacks db name has = Any-weaker
-    (λ (found : Record). (found.name ≡ name) × (IsInstalled found × ¬ HasItsRelations (installed_of db) (pkg_of found)))
-    (λ (found : Record). (found.name ≡ name) × ¬ IsSettled db found) db
-    (λ found within both. (both.0, λ settled. both.1.1 (settled both.1.0))) has
+    (λ (entry : Record). (entry.name ≡ name) × (IsInstalled entry × ¬ HasItsRelations (installed_of db) (pkg_of entry)))
+    (λ (entry : Record). (entry.name ≡ name) × ¬ IsSettled db entry) db
+    (λ entry within both. (both.0, λ settled. both.1.1 (settled both.1.0))) has
 
 lacks_discontent : (db : List Record) (name : List ℕ)
-    → Any (λ (found : Record). (found.name ≡ name) × ¬ IsSettled db found) db → HasRecord (LacksARelation db) name db
+    → Any (λ (entry : Record). (entry.name ≡ name) × ¬ IsSettled db entry) db → HasRecord (LacksARelation db) name db
 unfolding LacksARelation
-lacks_discontent db name some = Any-weaker (λ (found : Record). (found.name ≡ name) × ¬ IsSettled db found)
-    (λ (found : Record). (found.name ≡ name) × (IsInstalled found × ¬ HasItsRelations (installed_of db) (pkg_of found))) db
-    (λ found within both. (
+lacks_discontent db name some = Any-weaker (λ (entry : Record). (entry.name ≡ name) × ¬ IsSettled db entry)
+    (λ (entry : Record). (entry.name ≡ name) × (IsInstalled entry × ¬ HasItsRelations (installed_of db) (pkg_of entry))) db
+    (λ entry within both. (
       both.0,
       (
-        not_failed (is_installed_state found.state) (λ not_installed. both.1 (λ is. absurd (not_installed is))),
+        not_failed (is_installed_state entry.state) (λ not_installed. both.1 (λ is. absurd (not_installed is))),
         λ content. both.1 (λ is. content),
       ),
     )) some
 
 -- the least unfinished name is the first reason
 pub first_unfinished : (u : Universe) (db : List Record) (name : List ℕ)
-    → IsLeastWithout (λ (found : Record). ¬ IsUnfinished found) (λ (found : Record). found.name) db (Some name)
+    → IsLeastWithout (λ (entry : Record). ¬ IsUnfinished entry) (λ (entry : Record). entry.name) db (Some name)
     → IsFirstAgainst u db (reason.Unfinished name)
 first_unfinished u db name is = record { against = lacks_unfinished db name is.0; least = least }
   where
     least : (other : Reason) → IsAgainst u db other → ¬ (reason_cmp other (reason.Unfinished name) ≡ Less)
     least (reason.Unfinished other) against before =
-        none_before (λ (found : Record). ¬ IsUnfinished found) (λ (found : Record). found.name) db name other is
+        none_before (λ (entry : Record). ¬ IsUnfinished entry) (λ (entry : Record). entry.name) db name other is
         (unfinished_lacks db other against) (first_decides (name_cmp other name) before)
     least (reason.Relation other) against before = absurd (let e : Greater ≡ Less = before in cc)
     least (reason.Essential other) against before = absurd (let e : Greater ≡ Less = before in cc)
     least (reason.Goal number) against before = absurd (let e : Greater ≡ Less = before in cc)
 
 -- the least discontent name is the first reason, where all is finished
-pub first_relation : (u : Universe) (db : List Record) (name : List ℕ) → All (λ (found : Record). ¬ IsUnfinished found) db
-    → IsLeastWithout (IsSettled db) (λ (found : Record). found.name) db (Some name) → IsFirstAgainst u db (reason.Relation name)
+pub first_relation : (u : Universe) (db : List Record) (name : List ℕ) → All (λ (entry : Record). ¬ IsUnfinished entry) db
+    → IsLeastWithout (IsSettled db) (λ (entry : Record). entry.name) db (Some name) → IsFirstAgainst u db (reason.Relation name)
 first_relation u db name finished is = record { against = lacks_discontent db name is.0; least = least }
   where
     least : (other : Reason) → IsAgainst u db other → ¬ (reason_cmp other (reason.Relation name) ≡ Less)
     least (reason.Unfinished other) against before =
-        none_lacks (λ (found : Record). ¬ IsUnfinished found) (λ (found : Record). found.name) db other finished
+        none_lacks (λ (entry : Record). ¬ IsUnfinished entry) (λ (entry : Record). entry.name) db other finished
         (unfinished_lacks db other against)
-    least (reason.Relation other) against before = none_before (IsSettled db) (λ (found : Record). found.name) db name other is
+    least (reason.Relation other) against before = none_before (IsSettled db) (λ (entry : Record). entry.name) db name other is
         (discontent_lacks db other against) (first_decides (name_cmp other name) before)
     least (reason.Essential other) against before = absurd (let e : Greater ≡ Less = before in cc)
     least (reason.Goal number) against before = absurd (let e : Greater ≡ Less = before in cc)
 
 -- the least essential name that was lost is the first reason, where all is finished and settled
-pub first_essential : (u : Universe) (db : List Record) (name : List ℕ) → All (λ (found : Record). ¬ IsUnfinished found) db
+pub first_essential : (u : Universe) (db : List Record) (name : List ℕ) → All (λ (entry : Record). ¬ IsUnfinished entry) db
     → All (IsSettled db) db → IsLeastWithout (KeepsEssential (installed_of db)) (λ (start : Start). start.name) u.starts (Some name)
     → IsFirstAgainst u db (reason.Essential name)
 first_essential u db name finished settled is = record { against = is.0; least = least }
   where
     least : (other : Reason) → IsAgainst u db other → ¬ (reason_cmp other (reason.Essential name) ≡ Less)
     least (reason.Unfinished other) against before =
-        none_lacks (λ (found : Record). ¬ IsUnfinished found) (λ (found : Record). found.name) db other finished
+        none_lacks (λ (entry : Record). ¬ IsUnfinished entry) (λ (entry : Record). entry.name) db other finished
         (unfinished_lacks db other against)
-    least (reason.Relation other) against before = none_lacks (IsSettled db) (λ (found : Record). found.name) db other settled
+    least (reason.Relation other) against before = none_lacks (IsSettled db) (λ (entry : Record). entry.name) db other settled
         (discontent_lacks db other against)
     least (reason.Essential other) against before =
         none_before (KeepsEssential (installed_of db)) (λ (start : Start). start.name) u.starts name other is against
@@ -130,16 +130,16 @@ first_essential u db name finished settled is = record { against = is.0; least =
     least (reason.Goal number) against before = absurd (let e : Greater ≡ Less = before in cc)
 
 -- the first goal that isn't fulfilled is the first reason, where all is finished and settled, and no essential name was lost
-pub first_goal : (u : Universe) (db : List Record) (number : ℕ) → All (λ (found : Record). ¬ IsUnfinished found) db
+pub first_goal : (u : Universe) (db : List Record) (number : ℕ) → All (λ (entry : Record). ¬ IsUnfinished entry) db
     → All (IsSettled db) db → All (KeepsEssential (installed_of db)) u.starts → IsFirstUnfulfilled u db number
     → IsFirstAgainst u db (reason.Goal number)
 first_goal u db number finished settled kept is = record { against = is.0; least = least }
   where
     least : (other : Reason) → IsAgainst u db other → ¬ (reason_cmp other (reason.Goal number) ≡ Less)
     least (reason.Unfinished other) against before =
-        none_lacks (λ (found : Record). ¬ IsUnfinished found) (λ (found : Record). found.name) db other finished
+        none_lacks (λ (entry : Record). ¬ IsUnfinished entry) (λ (entry : Record). entry.name) db other finished
         (unfinished_lacks db other against)
-    least (reason.Relation other) against before = none_lacks (IsSettled db) (λ (found : Record). found.name) db other settled
+    least (reason.Relation other) against before = none_lacks (IsSettled db) (λ (entry : Record). entry.name) db other settled
         (discontent_lacks db other against)
     least (reason.Essential other) against before =
         none_lacks (KeepsEssential (installed_of db)) (λ (start : Start). start.name) u.starts other kept against
@@ -147,7 +147,7 @@ first_goal u db number finished settled kept is = record { against = is.0; least
         let above : number ≤ other = is.1 other against in omega arith
 
 -- where all is finished and settled, no essential name was lost and each goal is fulfilled, nothing is against the end
-pub nothing_against : (u : Universe) (db : List Record) → All (λ (found : Record). ¬ IsUnfinished found) db
+pub nothing_against : (u : Universe) (db : List Record) → All (λ (entry : Record). ¬ IsUnfinished entry) db
     → All (IsSettled db) db → All (KeepsEssential (installed_of db)) u.starts → All (IsFulfilled u db) u.goals
     → HasNothingAgainst u db
 nothing_against u db finished settled kept fulfilled = record {

@@ -68,7 +68,7 @@ pub with_the_next : {X : Type 0} (P : X → Type 0) (name_of : X → List ℕ) (
     → IsLeastWithout P name_of (take (place + 1) xs) next
 with_the_next {X} P name_of xs place x name least next is_fine within is named decides with_it so_far =
     let Items : List X → Type 0 = λ items. IsLeastWithout P name_of items next in
-    let Next : Option (List ℕ) → Type 0 = λ found. IsLeastWithout P name_of (take place xs ++ x ∷ []) found in
+    let Next : Option (List ℕ) → Type 0 = λ answer. IsLeastWithout P name_of (take place xs ++ x ∷ []) answer in
     let Named : List ℕ → Type 0 = λ n. next ≡ least_with least is_fine n in
     let Last : X → Type 0 = λ last. take place xs ++ last ∷ [] ≡ take (place + 1) xs in
     subst Items (subst Last (sym is) (sym (take_more xs place x within)))

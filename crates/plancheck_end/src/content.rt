@@ -12,7 +12,8 @@ use relation::{Atom, Pkg};
 // Whether the record isn't installed, is of the name, or doesn't match the atom.
 fn is_apart(other: &StateRecord<'_, '_>, name: &[u8], atom: &Atom<'_>) -> bool
     ensures { IsTrue result
-        ↔ (IsInstalled other.now → other.now.name ≢ name.now → ¬ Matches (pkg_of other.now) atom.now) }
+        ↔ (IsInstalled other.now → other.now.name ≢ name.now
+        → ¬ Matches (pkg_of other.now) atom.now) }
 {
     match other.present_pkg() {
         Some(there) if other.state().is_installed() => {
@@ -57,8 +58,9 @@ fn has_needs(db: &Records<'_, '_>, pkg: &Pkg<'_>) -> bool
     are_met(db, pkg.pre_depends()) && are_met(db, pkg.depends())
 }
 
-fn is_at_peace(db: &Records<'_, '_>, pkg: &Pkg<'_>) -> bool
-    ensures { IsTrue result ↔ (MatchedByNoOther (installed_of db.now) pkg.now.name pkg.now.relations.conflicts
+fn clashes_with_none(db: &Records<'_, '_>, pkg: &Pkg<'_>) -> bool
+    ensures { IsTrue result
+        ↔ (MatchedByNoOther (installed_of db.now) pkg.now.name pkg.now.relations.conflicts
         × MatchedByNoOther (installed_of db.now) pkg.now.name pkg.now.relations.breaks) }
 {
     is_matched_by_no_other(db, pkg.name(), pkg.conflicts())
@@ -71,5 +73,5 @@ fn is_at_peace(db: &Records<'_, '_>, pkg: &Pkg<'_>) -> bool
 pub fn is_content(db: &Records<'_, '_>, pkg: &Pkg<'_>) -> bool
     ensures { IsTrue result ↔ HasItsRelations (installed_of db.now) pkg.now }
 {
-    has_needs(db, pkg) && is_at_peace(db, pkg)
+    has_needs(db, pkg) && clashes_with_none(db, pkg)
 }

@@ -18,7 +18,7 @@ pub fn first_against(
     universe: &Universe<'_, '_>,
     db: &Records<'_, '_>,
 ) -> Result<Option<Reason>, AllocError>
-    ensures { IfOk result (λ found. MatchOption found (HasNothingAgainst universe.now db.now)
+    ensures { IfOk result (λ reason. MatchOption reason (HasNothingAgainst universe.now db.now)
         (λ first. IsFirstAgainst universe.now db.now first)) }
 {
     if let Some(name) = least_unfinished(db) {

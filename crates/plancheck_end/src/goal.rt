@@ -34,60 +34,66 @@ fn meets(version: &Version<'_>, restriction: &Option<Restriction>) -> bool
 }
 
 // Whether the record is installed, of the name, and of a version that meets the restriction.
-fn is_asked_for(found: &StateRecord<'_, '_>, name: &[u8], restriction: &Option<Restriction>) -> bool
-    ensures { IsTrue result ↔ (IsInstalled found.now
-        × ((found.now.name ≡ name.now) × Meets found.now.version restriction.now)) }
+fn is_asked_for(entry: &StateRecord<'_, '_>, name: &[u8], restriction: &Option<Restriction>) -> bool
+    ensures { IsTrue result ↔ (IsInstalled entry.now
+        × ((entry.now.name ≡ name.now) × Meets entry.now.version restriction.now)) }
 {
-    match found.present_pkg() {
-        Some(there) if found.state().is_installed() => {
-            is_same(found.name(), name) && meets(there.version(), restriction)
+    match entry.present_pkg() {
+        Some(there) if entry.state().is_installed() => {
+            is_same(entry.name(), name) && meets(there.version(), restriction)
         }
         _ => false,
     }
 }
 
 fn some_is_asked_for(
-    mut found: Holders<'_, '_, '_>,
+    mut holders: Holders<'_, '_, '_>,
     name: &[u8],
     restriction: &Option<Restriction>,
 ) -> bool
-    ensures { IsTrue result ↔ Any (λ found. IsInstalled found
-        × ((found.name ≡ name.now) × Meets found.version restriction.now)) found.entry }
+    ensures { IsTrue result ↔ Any (λ entry. IsInstalled entry
+        × ((entry.name ≡ name.now) × Meets entry.version restriction.now)) holders.entry }
 {
-    found.any(|found| is_asked_for(found, name, restriction))
+    holders.any(|entry| is_asked_for(entry, name, restriction))
 }
 
 // Whether the name is installed in a version that meets the restriction.
 fn has_installed(db: &Records<'_, '_>, name: &[u8], restriction: &Option<Restriction>) -> bool
     ensures { IsTrue result
-        ↔ Any (λ member. (member.name ≡ name.now) × Meets member.version restriction.now) (installed_of db.now) }
+        ↔ Any (λ member. (member.name ≡ name.now) × Meets member.version restriction.now)
+        (installed_of db.now) }
 {
     some_is_asked_for(db.holders(name), name, restriction)
 }
 
-fn is_other_or_gone(found: &StateRecord<'_, '_>, name: &[u8]) -> bool
-    ensures { IsTrue result ↔ (found.now.name ≡ name.now → IsTrue (is_not_installed_state found.now.state)) }
+fn is_other_or_gone(entry: &StateRecord<'_, '_>, name: &[u8]) -> bool
+    ensures { IsTrue result
+        ↔ (entry.now.name ≡ name.now → IsTrue (is_not_installed_state entry.now.state)) }
 {
-    !is_same(found.name(), name) || found.state().is_not_installed()
+    !is_same(entry.name(), name) || entry.state().is_not_installed()
 }
 
-fn are_others_or_gone(mut found: Holders<'_, '_, '_>, name: &[u8]) -> bool
+fn are_others_or_gone(mut holders: Holders<'_, '_, '_>, name: &[u8]) -> bool
     ensures { IsTrue result
-        ↔ All (λ found. found.name ≡ name.now → IsTrue (is_not_installed_state found.state)) found.entry }
+        ↔ All (λ entry. entry.name ≡ name.now
+        → IsTrue (is_not_installed_state entry.state)) holders.entry }
 {
-    found.all(|found| is_other_or_gone(found, name))
+    holders.all(|entry| is_other_or_gone(entry, name))
 }
 
 // Whether nothing of the name is left, configuration files included.
 fn is_gone(db: &Records<'_, '_>, name: &[u8]) -> bool
-    ensures { IsTrue result ↔ All (λ found. found.name ≡ name.now → IsTrue (is_not_installed_state found.state)) db.now }
+    ensures { IsTrue result
+        ↔ All (λ entry. entry.name ≡ name.now
+        → IsTrue (is_not_installed_state entry.state)) db.now }
 {
     are_others_or_gone(db.holders(name), name)
 }
 
 fn is_purged(db: &Records<'_, '_>, name: &[u8]) -> bool
     ensures { IsTrue result ↔ ((¬ HasMember name.now (installed_of db.now))
-        × All (λ found. found.name ≡ name.now → IsTrue (is_not_installed_state found.state)) db.now) }
+        × All (λ entry. entry.name ≡ name.now
+        → IsTrue (is_not_installed_state entry.state)) db.now) }
 {
     !has_member(db, name) && is_gone(db, name)
 }
@@ -125,7 +131,8 @@ fn is_upgraded(universe: &Universe<'_, '_>, db: &Records<'_, '_>, start: &Start<
 }
 
 fn are_upgraded(universe: &Universe<'_, '_>, db: &Records<'_, '_>) -> bool
-    ensures { IsTrue result ↔ All (IsUpgraded universe.now (installed_of db.now)) universe.now.starts }
+    ensures { IsTrue result
+        ↔ All (IsUpgraded universe.now (installed_of db.now)) universe.now.starts }
 {
     universe
         .starts()

@@ -31,31 +31,33 @@ fn least_with<'n>(least: Option<&'n [u8]>, is_fine: bool, name: &'n [u8]) -> Opt
     }
 }
 
-fn is_finished(found: &StateRecord<'_, '_>) -> bool
-    ensures { IsTrue result ↔ (¬ IsUnfinished found.now) }
+fn is_finished(entry: &StateRecord<'_, '_>) -> bool
+    ensures { IsTrue result ↔ (¬ IsUnfinished entry.now) }
 {
-    !found.is_unfinished()
+    !entry.is_unfinished()
 }
 
 /// The least name that is half-installed, unconfigured or to be installed again, if there is one.
 /// Linear in the records.
 pub fn least_unfinished<'a>(db: &Records<'_, 'a>) -> Option<&'a [u8]>
-    ensures { IsLeastWithout (λ found. ¬ IsUnfinished found) (λ found. found.name) db.now (option_copied result) }
+    ensures { IsLeastWithout (λ entry. ¬ IsUnfinished entry) (λ entry. entry.name) db.now
+        (option_copied result) }
 {
     let records = db.as_slice();
     let mut least = None;
-    for found in records {
-        least = least_with(least, is_finished(found), found.name());
+    for entry in records {
+        least = least_with(least, is_finished(entry), entry.name());
     }
     least
 }
 
 // Whether the record isn't installed or its package is content.
-fn is_settled(db: &Records<'_, '_>, found: &StateRecord<'_, '_>) -> bool
-    ensures { IsTrue result ↔ (IsInstalled found.now → HasItsRelations (installed_of db.now) (pkg_of found.now)) }
+fn is_settled(db: &Records<'_, '_>, entry: &StateRecord<'_, '_>) -> bool
+    ensures { IsTrue result
+        ↔ (IsInstalled entry.now → HasItsRelations (installed_of db.now) (pkg_of entry.now)) }
 {
-    match found.present_pkg() {
-        Some(here) if found.state().is_installed() => is_content(db, here),
+    match entry.present_pkg() {
+        Some(here) if entry.state().is_installed() => is_content(db, here),
         _ => true,
     }
 }
@@ -63,13 +65,14 @@ fn is_settled(db: &Records<'_, '_>, found: &StateRecord<'_, '_>) -> bool
 /// The least name of an installed package that has an unmet clause, or that conflicts with or breaks another, if
 /// there is one. For each atom of an installed package linear in the records that have or provide its name.
 pub fn least_discontent<'a>(db: &Records<'_, 'a>) -> Option<&'a [u8]>
-    ensures { IsLeastWithout (λ found. IsInstalled found → HasItsRelations (installed_of db.now) (pkg_of found))
-        (λ found. found.name) db.now (option_copied result) }
+    ensures { IsLeastWithout
+        (λ entry. IsInstalled entry → HasItsRelations (installed_of db.now) (pkg_of entry))
+        (λ entry. entry.name) db.now (option_copied result) }
 {
     let records = db.as_slice();
     let mut least = None;
-    for found in records {
-        least = least_with(least, is_settled(db, found), found.name());
+    for entry in records {
+        least = least_with(least, is_settled(db, entry), entry.name());
     }
     least
 }
@@ -85,7 +88,8 @@ fn keeps_essential(db: &Records<'_, '_>, start: &Start<'_>) -> bool
 /// The least essential name that was present at the start and isn't installed, if there is one. For each name of
 /// the start linear in the records that have or provide it.
 pub fn least_lost<'a>(db: &Records<'_, '_>, starts: &[Start<'a>]) -> Option<&'a [u8]>
-    ensures { IsLeastWithout (KeepsEssential (installed_of db.now)) (λ start. start.name) starts.now (option_copied result) }
+    ensures { IsLeastWithout (KeepsEssential (installed_of db.now)) (λ start. start.name) starts.now
+        (option_copied result) }
 {
     let mut least = None;
     for start in starts {

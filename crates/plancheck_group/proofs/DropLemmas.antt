@@ -252,21 +252,21 @@ nothing_where_empty db ready others left name are_ready is has supplied = (
 -- the ready names stand for all
 ready_for_all : (db : List Record) (names ready : List (List ℕ)) (name : List ℕ) → IsPartWith (IsReady db) names ready
     → NothingWithout db ready name → HasNoPartWithout db names name
-ready_for_all db names ready name is nothing part found = nothing part
-    ((ready_has db names ready is).greatest part (All-intro (Contains names) part (λ n there. (at n there).0)) found.passes) found.passes
+ready_for_all db names ready name is nothing part greatest = nothing part
+    ((ready_has db names ready is).greatest part (All-intro (Contains names) part (λ n there. (at n there).0)) greatest.passes) greatest.passes
     (λ there. (at name there).1 refl)
   where
     at : (n : List ℕ) → Contains part n → Contains names n × (n ≢ name)
-    at n there = others_of-contains name names n (All-contains (Contains (others_of name names)) part n found.within there)
+    at n there = others_of-contains name names n (All-contains (Contains (others_of name names)) part n greatest.within there)
 
 all_for_ready : (db : List Record) (names ready : List (List ℕ)) (name : List ℕ) → IsPartWith (IsReady db) names ready
     → HasNoPartWithout db names name → NothingWithout db ready name
 all_for_ready db names ready name is none part within passes lacks =
-    let found = greatest_part db (others_of name names) in
-    let empty : found.0 ≡ [] = none found.0 found.1 in
+    let greatest = greatest_part db (others_of name names) in
+    let empty : greatest.0 ≡ [] = none greatest.0 greatest.1 in
     let P : List ℕ → List (List ℕ) → Type 0 = λ n group. Contains group n in
-    empty_from_none part (λ n there. Contains-nil n (subst (P n) empty (All-contains (Contains found.0) part n
-    (found.1.greatest part (All-intro (Contains (others_of name names)) part (λ m inside.
+    empty_from_none part (λ n there. Contains-nil n (subst (P n) empty (All-contains (Contains greatest.0) part n
+    (greatest.1.greatest part (All-intro (Contains (others_of name names)) part (λ m inside.
     contains-others_of name names m ((is m).0 (All-contains (Contains ready) part m within inside)).0
     (λ same. lacks (subst (Contains part) same inside)))) passes) there)))
 

@@ -166,12 +166,12 @@ no_keys keys names view =
     )
 
 -- what tells whether names contain that of a record tells whether it is among them
-pub told_among : (names : List (List ℕ)) (found : Record) (answer : Bool) → (answer ≡ true) ↔ Contains names found.name
-    → answer ≡ is_among names found
-told_among names found answer both = elim (cases_Bool answer) [
-  | inl so ↦ so ∙ sym (is_among-contains names found (both.0 so))
-  | inr none ↦ elim (cases_Bool (is_among names found)) [
-    | inl there ↦ absurd (true≢false (sym (both.1 (contains-is_among names found there)) ∙ none))
+pub told_among : (names : List (List ℕ)) (entry : Record) (answer : Bool) → (answer ≡ true) ↔ Contains names entry.name
+    → answer ≡ is_among names entry
+told_among names entry answer both = elim (cases_Bool answer) [
+  | inl so ↦ so ∙ sym (is_among-contains names entry (both.0 so))
+  | inr none ↦ elim (cases_Bool (is_among names entry)) [
+    | inl there ↦ absurd (true≢false (sym (both.1 (contains-is_among names entry there)) ∙ none))
     | inr is ↦ none ∙ sym is
   ]
 ]

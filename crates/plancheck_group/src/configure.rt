@@ -13,16 +13,16 @@ use plancheck_state::{Holders, Records, StateRecord, are_met, breaks_other, is_m
 use relation::{Atom, Clause, Pkg};
 use rules::Name;
 
-fn is_configurable(found: &StateRecord<'_, '_>, name: &[u8]) -> bool
-    ensures { IsTrue result ↔ ((found.now.name ≡ name.now) × IsConfigurable found.now) }
+fn is_configurable(entry: &StateRecord<'_, '_>, name: &[u8]) -> bool
+    ensures { IsTrue result ↔ ((entry.now.name ≡ name.now) × IsConfigurable entry.now) }
 {
-    is_same(found.name(), name) && found.state().is_unconfigured() && found.flag().is_sound()
+    is_same(entry.name(), name) && entry.state().is_unconfigured() && entry.flag().is_sound()
 }
 
-fn some_is_configurable(mut found: Holders<'_, '_, '_>, name: &[u8]) -> bool
-    ensures { IsTrue result ↔ HasRecord IsConfigurable name.now found.entry }
+fn some_is_configurable(mut holders: Holders<'_, '_, '_>, name: &[u8]) -> bool
+    ensures { IsTrue result ↔ HasRecord IsConfigurable name.now holders.entry }
 {
-    found.any(|found| is_configurable(found, name))
+    holders.any(|entry| is_configurable(entry, name))
 }
 
 fn has_configurable(db: &Records<'_, '_>, name: &[u8]) -> bool
@@ -92,7 +92,8 @@ fn is_not_broken_by(
     here: &Pkg<'_>,
 ) -> bool
     requires { here.now ≡ pkg_of member.now }
-    ensures { IsTrue result ↔ (other.now.name ≢ member.now.name → DoesNotBreak member.now other.now) }
+    ensures { IsTrue result
+        ↔ (other.now.name ≢ member.now.name → DoesNotBreak member.now other.now) }
 {
     match other.present_pkg() {
         None => true,
@@ -132,21 +133,24 @@ fn are_others_or_unbroken(
     mut members: Holders<'_, '_, '_>,
     name: &[u8],
 ) -> bool
-    ensures { IsTrue result ↔ All (λ member. member.name ≡ name.now → IsUnbroken db.now member) members.entry }
+    ensures { IsTrue result
+        ↔ All (λ member. member.name ≡ name.now → IsUnbroken db.now member) members.entry }
 {
     members.all(|member| is_other_or_unbroken(db, name, member))
 }
 
 // Whether no present package of another name breaks the name's package.
 fn is_name_unbroken(db: &Records<'_, '_>, name: &[u8]) -> bool
-    ensures { IsTrue result ↔ All (λ member. member.name ≡ name.now → IsUnbroken db.now member) db.now }
+    ensures { IsTrue result
+        ↔ All (λ member. member.name ≡ name.now → IsUnbroken db.now member) db.now }
 {
     are_others_or_unbroken(db, db.holders(name), name)
 }
 
 fn are_each_unbroken(db: &Records<'_, '_>, names: &[Name]) -> bool
     ensures { IsTrue result
-        ↔ All (λ name. All (λ member. member.name ≡ name → IsUnbroken db.now member) db.now) names.now }
+        ↔ All (λ name.
+        All (λ member. member.name ≡ name → IsUnbroken db.now member) db.now) names.now }
 {
     names
         .iter()
@@ -162,59 +166,61 @@ pub fn are_unbroken(db: &Records<'_, '_>, names: &[Name]) -> bool
 }
 
 // Whether the record is present, of one of the names, and matches the atom.
-fn matches_among(part: &Among<'_, '_>, found: &StateRecord<'_, '_>, atom: &Atom<'_>) -> bool
+fn matches_among(part: &Among<'_, '_>, entry: &StateRecord<'_, '_>, atom: &Atom<'_>) -> bool
     ensures { IsTrue result
-        ↔ ((is_present_among part.now found.now ≡ true) × Matches (pkg_of found.now) atom.now) }
+        ↔ ((is_present_among part.now entry.now ≡ true) × Matches (pkg_of entry.now) atom.now) }
 {
-    match found.present_pkg() {
-        Some(there) => part.has_record(found) && atom.matched_by(there),
+    match entry.present_pkg() {
+        Some(there) => part.has_record(entry) && atom.matched_by(there),
         None => false,
     }
 }
 
 fn some_holder_matches(
-    mut found: Holders<'_, '_, '_>,
+    mut holders: Holders<'_, '_, '_>,
     part: &Among<'_, '_>,
     atom: &Atom<'_>,
 ) -> bool
-    ensures { IsTrue result ↔ Any (λ found. (is_present_among part.now found ≡ true)
-        × Matches (pkg_of found) atom.now) found.entry }
+    ensures { IsTrue result ↔ Any (λ entry. (is_present_among part.now entry ≡ true)
+        × Matches (pkg_of entry) atom.now) holders.entry }
 {
-    found.any(|found| matches_among(part, found, atom))
+    holders.any(|entry| matches_among(part, entry, atom))
 }
 
 fn is_atom_met_among(db: &Records<'_, '_>, part: &Among<'_, '_>, atom: &Atom<'_>) -> bool
-    ensures { IsTrue result ↔ Any (λ found. (is_present_among part.now found ≡ true)
-        × Matches (pkg_of found) atom.now) db.now }
+    ensures { IsTrue result ↔ Any (λ entry. (is_present_among part.now entry ≡ true)
+        × Matches (pkg_of entry) atom.now) db.now }
 {
     some_holder_matches(db.holders(atom.name()), part, atom)
 }
 
 fn some_atom_is_met_among(db: &Records<'_, '_>, part: &Among<'_, '_>, atoms: &[Atom<'_>]) -> bool
-    ensures { IsTrue result ↔ Any (λ atom. Any (λ found. (is_present_among part.now found ≡ true)
-        × Matches (pkg_of found) atom) db.now) atoms.now }
+    ensures { IsTrue result ↔ Any (λ atom. Any (λ entry. (is_present_among part.now entry ≡ true)
+        × Matches (pkg_of entry) atom) db.now) atoms.now }
 {
     atoms.iter().any(|atom| is_atom_met_among(db, part, atom))
 }
 
 // Whether a member matches the clause.
 fn some_matches_among(db: &Records<'_, '_>, part: &Among<'_, '_>, clause: &Clause<'_>) -> bool
-    ensures { IsTrue result ↔ Any (λ found. (is_present_among part.now found ≡ true)
-        × MatchesSome (pkg_of found) clause.now) db.now }
+    ensures { IsTrue result ↔ Any (λ entry. (is_present_among part.now entry ≡ true)
+        × MatchesSome (pkg_of entry) clause.now) db.now }
 {
     some_atom_is_met_among(db, part, clause.as_slice())
 }
 
 // Whether an installed package or a member matches the clause.
 fn is_met_with(db: &Records<'_, '_>, part: &Among<'_, '_>, clause: &Clause<'_>) -> bool
-    ensures { IsTrue result ↔ MeetsClause (installed_of db.now ++ members_of part.now db.now) clause.now }
+    ensures { IsTrue result
+        ↔ MeetsClause (installed_of db.now ++ members_of part.now db.now) clause.now }
 {
     is_met(db, clause) || some_matches_among(db, part, clause)
 }
 
 #[tactic(auto, unfolding(rules::specs::Sound::MeetsClauses))]
 fn are_met_with(db: &Records<'_, '_>, part: &Among<'_, '_>, clauses: &[Clause<'_>]) -> bool
-    ensures { IsTrue result ↔ MeetsClauses (installed_of db.now ++ members_of part.now db.now) clauses.now }
+    ensures { IsTrue result
+        ↔ MeetsClauses (installed_of db.now ++ members_of part.now db.now) clauses.now }
 {
     clauses.iter().all(|clause| is_met_with(db, part, clause))
 }
@@ -227,7 +233,8 @@ fn is_other_or_supplied(
     member: &StateRecord<'_, '_>,
 ) -> bool
     ensures { IsTrue result ↔ (member.now.name ≡ name.now
-        → MeetsClauses (installed_of db.now ++ members_of part.now db.now) member.now.relations.depends) }
+        → MeetsClauses
+        (installed_of db.now ++ members_of part.now db.now) member.now.relations.depends) }
 {
     !is_same(member.name(), name) || are_met_with(db, part, member.depends())
 }
@@ -239,7 +246,9 @@ fn are_others_or_supplied(
     name: &[u8],
 ) -> bool
     ensures { IsTrue result ↔ All (λ member. member.name ≡ name.now
-        → MeetsClauses (installed_of db.now ++ members_of part.now db.now) member.relations.depends) members.entry }
+        → MeetsClauses
+        (installed_of db.now
+        ++ members_of part.now db.now) member.relations.depends) members.entry }
 {
     members.all(|member| is_other_or_supplied(db, part, name, member))
 }
@@ -248,14 +257,17 @@ fn are_others_or_supplied(
 /// records that have or provide its name.
 pub fn is_supplied(db: &Records<'_, '_>, part: &Among<'_, '_>, name: &[u8]) -> bool
     ensures { IsTrue result ↔ All (λ member. member.name ≡ name.now
-        → MeetsClauses (installed_of db.now ++ members_of part.now db.now) member.relations.depends) db.now }
+        → MeetsClauses
+        (installed_of db.now ++ members_of part.now db.now) member.relations.depends) db.now }
 {
     are_others_or_supplied(db, part, db.holders(name), name)
 }
 
 fn are_each_supplied(db: &Records<'_, '_>, part: &Among<'_, '_>, names: &[Name]) -> bool
     ensures { IsTrue result ↔ All (λ name. All (λ member. member.name ≡ name
-        → MeetsClauses (installed_of db.now ++ members_of part.now db.now) member.relations.depends) db.now) names.now }
+        → MeetsClauses
+        (installed_of db.now
+        ++ members_of part.now db.now) member.relations.depends) db.now) names.now }
 {
     names
         .iter()
@@ -275,5 +287,5 @@ fn are_supplied(db: &Records<'_, '_>, part: &Among<'_, '_>, names: &[Name]) -> b
 pub fn are_depends_installed(db: &Records<'_, '_>, names: &[Name]) -> bool
     ensures { IsTrue result ↔ AreDependsInstalled db.now names.now }
 {
-    are_supplied(db, &Among::listed(names), names)
+    are_supplied(db, &Among::of_list(names), names)
 }

@@ -8,7 +8,7 @@ ghost use Rattle.plancheck_group.specs.Part.{HasNoPartWithout, HaveSameNames, Is
 
 use crate::lacking::{drop_after, is_met_in, keep_supplied};
 use crate::needs::Needs;
-use crate::part::Part;
+use crate::part::NameSet;
 use crate::ready::{keep_ready, names_left, ready_of};
 use plancheck_state::Records;
 use rules::{Name, indivisible_by_others};
@@ -25,7 +25,7 @@ pub fn greatest_part(
     ensures { IfOk result (λ part. IsGreatestPart db.now names.now part.items) }
 {
     let needs = Needs::read(alloc, db, names)?;
-    let mut part = Part::of(alloc, names)?;
+    let mut part = NameSet::of(alloc, names)?;
     keep_supplied(alloc, db, names, &needs, &mut part)?;
     keep_ready(db, names, &mut part);
     keep_supplied(alloc, db, names, &needs, &mut part)?;
@@ -34,10 +34,10 @@ pub fn greatest_part(
 }
 
 // The ready names but for this one.
-fn others<'n>(alloc: Global, ready: &'n [Name], name: &[u8]) -> Result<Part<'n>, AllocError>
+fn others<'n>(alloc: Global, ready: &'n [Name], name: &[u8]) -> Result<NameSet<'n>, AllocError>
     ensures { IfOk result (λ others. IsPartWith (λ other. other ≢ name.now) ready.now others) }
 {
-    let mut others = Part::of(alloc, ready)?;
+    let mut others = NameSet::of(alloc, ready)?;
     others.leave_out(name);
     Ok(others)
 }
@@ -47,12 +47,13 @@ fn drop_without<'n>(
     alloc: Global,
     db: &Records<'_, '_>,
     needs: &Needs<'n>,
-    lost: &Part<'_>,
-    part: &mut Part<'n>,
+    lost: &NameSet<'_>,
+    part: &mut NameSet<'n>,
     name: &'n [u8],
 ) -> Result<bool, AllocError>
     ensures narrowed { OnOk result (IsNarrowed db.now part.old part.new) }
-    ensures lost { IfOk result (λ hit. hit ≡ true → Any (λ name. ¬ Contains part.new name) lost.now) }
+    ensures lost { IfOk result
+        (λ hit. hit ≡ true → Any (λ name. ¬ Contains part.new name) lost.now) }
 {
     let mut gone = Vec::new(alloc);
     gone.push(name)?;
@@ -66,7 +67,7 @@ fn is_lost_without<'n>(
     db: &Records<'_, '_>,
     ready: &'n [Name],
     needs: &Needs<'n>,
-    lost: &Part<'_>,
+    lost: &NameSet<'_>,
     name: &'n [u8],
 ) -> Result<bool, AllocError>
     requires ready { All (IsReady db.now) ready.now }
@@ -83,19 +84,22 @@ fn is_lost_without<'n>(
 }
 
 // Whether the name is one of the lost ones and its Depends aren't met among the others.
-fn is_stranded(db: &Records<'_, '_>, lost: &Part<'_>, others: &Part<'_>, name: &[u8]) -> bool
-    ensures { IsTrue result ↔ (Contains lost.now name.now × (¬ IsSupplied db.now others.now name.now)) }
+fn is_stranded(db: &Records<'_, '_>, lost: &NameSet<'_>, others: &NameSet<'_>, name: &[u8]) -> bool
+    ensures { IsTrue result
+        ↔ (Contains lost.now name.now × (¬ IsSupplied db.now others.now name.now)) }
 {
     lost.has(name) && !is_met_in(db, others, name)
 }
 
 fn some_is_stranded(
     db: &Records<'_, '_>,
-    lost: &Part<'_>,
-    others: &Part<'_>,
+    lost: &NameSet<'_>,
+    others: &NameSet<'_>,
     names: &[&[u8]],
 ) -> bool
-    ensures { IsTrue result ↔ Any (λ name. Contains lost.now name.now × (¬ IsSupplied db.now others.now name.now)) names.now }
+    ensures { IsTrue result
+        ↔ Any (λ name. Contains lost.now name.now
+        × (¬ IsSupplied db.now others.now name.now)) names.now }
 {
     names.iter().any(|name| is_stranded(db, lost, others, name))
 }
@@ -104,8 +108,8 @@ fn some_is_stranded(
 fn is_asked_by_lost(
     db: &Records<'_, '_>,
     needs: &Needs<'_>,
-    lost: &Part<'_>,
-    others: &Part<'_>,
+    lost: &NameSet<'_>,
+    others: &NameSet<'_>,
     name: &[u8],
 ) -> bool
     ensures { result ≡ true → Any (λ name. ¬ IsSupplied db.now others.now name) lost.now }
@@ -121,11 +125,12 @@ fn is_asked_by_lost(
 fn is_missed<'n>(
     db: &Records<'_, '_>,
     needs: &Needs<'n>,
-    lost: &Part<'_>,
-    whole: &mut Part<'n>,
+    lost: &NameSet<'_>,
+    whole: &mut NameSet<'n>,
     name: &'n [u8],
 ) -> Result<bool, AllocError>
-    ensures missed { IfOk result (λ missed. missed ≡ true → (ready : List (List ℕ)) → HaveSameNames whole.old ready
+    ensures missed { IfOk result
+        (λ missed. missed ≡ true → (ready : List (List ℕ)) → HaveSameNames whole.old ready
         → All (NothingWithout db.now ready) lost.now → NothingWithout db.now ready name.now) }
     ensures same { OnOk result (HaveSameNames whole.new whole.old) }
 {
@@ -144,7 +149,7 @@ fn lose_one<'n>(
     db: &Records<'_, '_>,
     ready: &'n [Name],
     needs: &Needs<'n>,
-    lost: &mut Part<'n>,
+    lost: &mut NameSet<'n>,
     name: &'n [u8],
 ) -> Result<bool, AllocError>
     requires ready { All (IsReady db.now) ready.now }
@@ -165,8 +170,8 @@ fn lose_next<'n>(
     db: &Records<'_, '_>,
     ready: &'n [Name],
     needs: &Needs<'n>,
-    lost: &mut Part<'n>,
-    whole: &mut Part<'n>,
+    lost: &mut NameSet<'n>,
+    whole: &mut NameSet<'n>,
     name: &'n [u8],
 ) -> Result<bool, AllocError>
     requires ready { All (IsReady db.now) ready.now }
@@ -191,13 +196,13 @@ fn lose<'n>(
     ready: &'n [Name],
     needs: &Needs<'n>,
     turn: &[&'n [u8]],
-    lost: &mut Part<'n>,
+    lost: &mut NameSet<'n>,
 ) -> Result<(), AllocError>
     requires ready { All (IsReady db.now) ready.now }
     requires lost { All (NothingWithout db.now ready.now) lost.old }
     ensures { OnOk result (All (NothingWithout db.now ready.now) lost.new) }
 {
-    let mut whole = Part::of(alloc, ready)?;
+    let mut whole = NameSet::of(alloc, ready)?;
     for name in turn {
         let known = lose_next(alloc, db, ready, needs, lost, &mut whole, *name)?;
         if !known {
@@ -213,7 +218,7 @@ fn is_lost_name<'n>(
     db: &Records<'_, '_>,
     ready: &'n [Name],
     needs: &Needs<'n>,
-    lost: &Part<'_>,
+    lost: &NameSet<'_>,
     name: &'n Name,
 ) -> Result<bool, AllocError>
     requires ready { All (IsReady db.now) ready.now }
@@ -235,11 +240,12 @@ fn are_lost<'n>(
     names: &'n [Name],
     ready: &'n [Name],
     needs: &Needs<'n>,
-    lost: &Part<'_>,
+    lost: &NameSet<'_>,
 ) -> Result<bool, AllocError>
     requires ready { All (IsReady db.now) ready.now }
     requires lost { All (NothingWithout db.now ready.now) lost.now }
-    ensures { IfOk result (λ answer. IsTrue answer ↔ All (NothingWithout db.now ready.now) names.now) }
+    ensures { IfOk result
+        (λ answer. IsTrue answer ↔ All (NothingWithout db.now ready.now) names.now) }
 {
     for name in names {
         let known = is_lost_name(alloc, db, ready, needs, lost, name)?;
@@ -259,11 +265,12 @@ fn has_no_part(
     ready: &[Name],
 ) -> Result<bool, AllocError>
     requires { IsPartWith (IsReady db.now) names.now ready.now }
-    ensures { IfOk result (λ answer. IsTrue answer ↔ All (HasNoPartWithout db.now names.now) names.now) }
+    ensures { IfOk result
+        (λ answer. IsTrue answer ↔ All (HasNoPartWithout db.now names.now) names.now) }
 {
     let needs = Needs::read(alloc, db, ready)?;
     let turn = needs.in_turn(alloc)?;
-    let mut lost = Part::new(alloc);
+    let mut lost = NameSet::new(alloc);
     lose(alloc, db, ready, &needs, turn.as_slice(), &mut lost)?;
     let answer = are_lost(alloc, db, names, ready, &needs, &lost)?;
     Ok(answer)

@@ -7,22 +7,24 @@ ghost use Rattle.plancheck_group.specs.Part.{IsDroppedTo, IsLookedAt, IsNarrowed
 
 use crate::configure::is_supplied;
 use crate::needs::Needs;
-use crate::part::{Among, Part};
+use crate::part::{Among, NameSet};
 use plancheck_state::Records;
 use rules::Name;
 use std::alloc::{AllocError, Global};
 
 /// Whether the Depends of the name's package are met by installed packages and what is left.
-pub fn is_met_in(db: &Records<'_, '_>, part: &Part<'_>, name: &[u8]) -> bool
+pub fn is_met_in(db: &Records<'_, '_>, part: &NameSet<'_>, name: &[u8]) -> bool
     ensures { IsTrue result ↔ IsSupplied db.now part.now name.now }
 {
-    is_supplied(db, &Among::left(part), name)
+    is_supplied(db, &Among::of_set(part), name)
 }
 
 // Whether the name is one of the part's whose Depends aren't met there.
-fn is_lacking(db: &Records<'_, '_>, part: &Part<'_>, name: &[u8]) -> bool
-    ensures lacks { result ≡ true → Contains part.now name.now × ¬ IsSupplied db.now part.now name.now }
-    ensures supplied { result ≡ false → Contains part.now name.now → IsSupplied db.now part.now name.now }
+fn is_lacking(db: &Records<'_, '_>, part: &NameSet<'_>, name: &[u8]) -> bool
+    ensures lacks { result ≡ true → Contains part.now name.now
+        × ¬ IsSupplied db.now part.now name.now }
+    ensures supplied { result ≡ false → Contains part.now name.now
+        → IsSupplied db.now part.now name.now }
 {
     if !part.has(name) {
         return false;
@@ -31,11 +33,12 @@ fn is_lacking(db: &Records<'_, '_>, part: &Part<'_>, name: &[u8]) -> bool
 }
 
 // Drops the name, if it is lacking. Answers whether.
-fn drop_lacking(db: &Records<'_, '_>, part: &mut Part<'_>, name: &[u8]) -> bool
+fn drop_lacking(db: &Records<'_, '_>, part: &mut NameSet<'_>, name: &[u8]) -> bool
     ensures narrowed { IsNarrowed db.now part.old part.new }
     ensures dropped { result ≡ true → length part.new < length part.old }
     ensures same { result ≡ false → part.new ≡ part.old }
-    ensures supplied { result ≡ false → Contains part.new name.now → IsSupplied db.now part.new name.now }
+    ensures supplied { result ≡ false → Contains part.new name.now
+        → IsSupplied db.now part.new name.now }
 {
     if !is_lacking(db, part, name) {
         return false;
@@ -45,13 +48,15 @@ fn drop_lacking(db: &Records<'_, '_>, part: &mut Part<'_>, name: &[u8]) -> bool
 }
 
 // The same, and adds the name to those that went.
-fn look_at<'n>(
+fn move_lacking<'n>(
     db: &Records<'_, '_>,
-    part: &mut Part<'_>,
+    part: &mut NameSet<'_>,
     name: &'n [u8],
     gone: &mut Vec<&'n [u8]>,
 ) -> Result<(), AllocError>
-    ensures { OnOk result (IsLookedAt db.now name.now part.old part.new (length gone.old.items) (length gone.new.items)) }
+    ensures { OnOk result
+        (IsLookedAt db.now name.now part.old part.new (length gone.old.items)
+        (length gone.new.items)) }
 {
     if !drop_lacking(db, part, name) {
         return Ok(());
@@ -65,13 +70,14 @@ fn drop_each<'n>(
     alloc: Global,
     db: &Records<'_, '_>,
     names: &'n [Name],
-    part: &mut Part<'n>,
+    part: &mut NameSet<'n>,
 ) -> Result<Vec<&'n [u8]>, AllocError>
-    ensures { IfOk result (λ gone. IsWalked db.now names.now part.old part.new (length gone.items)) }
+    ensures { IfOk result
+        (λ gone. IsWalked db.now names.now part.old part.new (length gone.items)) }
 {
     let mut gone = Vec::new(alloc);
     for name in names {
-        look_at(db, part, name.as_bytes(), &mut gone)?;
+        move_lacking(db, part, name.as_bytes(), &mut gone)?;
     }
     Ok(gone)
 }
@@ -80,17 +86,18 @@ fn drop_each<'n>(
 fn drop_asking<'n>(
     db: &Records<'_, '_>,
     needs: &Needs<'n>,
-    part: &mut Part<'n>,
+    part: &mut NameSet<'n>,
     name: &[u8],
     next: &mut Vec<&'n [u8]>,
 ) -> Result<(), AllocError>
-    ensures { OnOk result (IsDroppedTo db.now part.old part.new (length next.old.items) (length next.new.items)) }
+    ensures { OnOk result
+        (IsDroppedTo db.now part.old part.new (length next.old.items) (length next.new.items)) }
 {
     let Some(asked) = needs.asking_for(name) else {
         return Ok(());
     };
     for asking in asked.as_slice() {
-        look_at(db, part, *asking, next)?;
+        move_lacking(db, part, *asking, next)?;
     }
     Ok(())
 }
@@ -100,7 +107,7 @@ fn drop_next<'n>(
     alloc: Global,
     db: &Records<'_, '_>,
     needs: &Needs<'n>,
-    part: &mut Part<'n>,
+    part: &mut NameSet<'n>,
     gone: &[&'n [u8]],
 ) -> Result<Vec<&'n [u8]>, AllocError>
     ensures { IfOk result (λ next. IsDroppedTo db.now part.old part.new 0 (length next.items)) }
@@ -113,14 +120,15 @@ fn drop_next<'n>(
 }
 
 // Whether the name is one of the lost ones and isn't left.
-fn is_lost(lost: &Part<'_>, part: &Part<'_>, name: &[u8]) -> bool
+fn is_lost(lost: &NameSet<'_>, part: &NameSet<'_>, name: &[u8]) -> bool
     ensures { IsTrue result ↔ (Contains lost.now name.now × (¬ Contains part.now name.now)) }
 {
     lost.has(name) && !part.has(name)
 }
 
-fn some_is_lost(lost: &Part<'_>, part: &Part<'_>, gone: &[&[u8]]) -> bool
-    ensures { IsTrue result ↔ Any (λ name. Contains lost.now name.now × (¬ Contains part.now name.now)) gone.now }
+fn some_is_lost(lost: &NameSet<'_>, part: &NameSet<'_>, gone: &[&[u8]]) -> bool
+    ensures { IsTrue result
+        ↔ Any (λ name. Contains lost.now name.now × (¬ Contains part.now name.now)) gone.now }
 {
     gone.iter().any(|name| is_lost(lost, part, name))
 }
@@ -132,12 +140,13 @@ pub fn drop_after<'n>(
     alloc: Global,
     db: &Records<'_, '_>,
     needs: &Needs<'n>,
-    lost: &Part<'_>,
-    part: &mut Part<'n>,
+    lost: &NameSet<'_>,
+    part: &mut NameSet<'n>,
     gone: Vec<&'n [u8]>,
 ) -> Result<bool, AllocError>
     ensures narrowed { OnOk result (IsNarrowed db.now part.old part.new) }
-    ensures lost { IfOk result (λ hit. hit ≡ true → Any (λ name. ¬ Contains part.new name) lost.now) }
+    ensures lost { IfOk result
+        (λ hit. hit ≡ true → Any (λ name. ¬ Contains part.new name) lost.now) }
 {
     let mut gone = gone;
     'turns: while !gone.is_empty() {
@@ -157,12 +166,12 @@ pub fn keep_supplied<'n>(
     db: &Records<'_, '_>,
     names: &'n [Name],
     needs: &Needs<'n>,
-    part: &mut Part<'n>,
+    part: &mut NameSet<'n>,
 ) -> Result<(), AllocError>
     requires { All (Contains names.now) part.old }
     ensures { OnOk result (IsSuppliedPart db.now part.old part.new) }
 {
-    let none = Part::new(alloc);
+    let none = NameSet::new(alloc);
     let mut gone = drop_each(alloc, db, names, part)?;
     'turns: while !gone.is_empty() {
         let _hit = drop_after(alloc, db, needs, &none, part, gone)?;

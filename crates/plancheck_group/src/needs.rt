@@ -1,7 +1,7 @@
 // Who needs whom in a group (Policy 7.2). It says at which name to look next; what is found never hangs on it, so nothing is
 // proved of it.
 
-use crate::part::Part;
+use crate::part::NameSet;
 use indexmap::IndexSet;
 use plancheck_state::{Records, is_met, is_same};
 use relation::{Atom, Clause};
@@ -79,12 +79,12 @@ impl<'n> Needs<'n> {
         atoms: &[Atom<'_>],
     ) -> Result<(), AllocError> {
         for atom in atoms {
-            for found in db.holders(atom.name()) {
-                if found
+            for entry in db.holders(atom.name()) {
+                if entry
                     .present_pkg()
                     .is_some_and(|there| atom.matched_by(there))
                 {
-                    if let Some(asked) = self.names.get_index_of(found.name()) {
+                    if let Some(asked) = self.names.get_index_of(entry.name()) {
                         self.note(asking, asked)?;
                     }
                 }
@@ -115,9 +115,9 @@ impl<'n> Needs<'n> {
         asking: usize,
         name: &[u8],
     ) -> Result<(), AllocError> {
-        for found in db.holders(name) {
-            if is_same(found.name(), name) {
-                self.read_clauses(db, asking, found.depends())?;
+        for entry in db.holders(name) {
+            if is_same(entry.name(), name) {
+                self.read_clauses(db, asking, entry.depends())?;
             }
         }
         Ok(())
@@ -154,7 +154,7 @@ impl<'n> Needs<'n> {
     /// The names that the first asks for in turn, itself first: each stands behind one that asks for it. Linear in what they ask
     /// for. Memory alone can fail.
     pub fn in_turn(&self, alloc: Global) -> Result<Vec<&'n [u8]>, AllocError> {
-        let mut turn = Part::new(alloc);
+        let mut turn = NameSet::new(alloc);
         let mut order = Vec::new(alloc);
         if let Some(first) = self.names.first().copied() {
             turn.insert(first)?;

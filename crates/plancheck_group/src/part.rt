@@ -14,11 +14,11 @@ use std::marker::Model;
 
 /// Names of a group, each once.
 #[derive(Drop)]
-pub struct Part<'n> {
+pub struct NameSet<'n> {
     names: IndexSet<&'n [u8]>,
 }
 
-impl<'n> Model for Part<'n> {
+impl<'n> Model for NameSet<'n> {
     ghost use Rattle.std.specs.Prelude.{List, ℕ, map};
 
     ghost Value = { List (List ℕ) };
@@ -26,12 +26,12 @@ impl<'n> Model for Part<'n> {
     ghost view = { λ part. map (λ name. name.now) part.names.keys };
 }
 
-impl<'n> Part<'n> {
+impl<'n> NameSet<'n> {
     /// No names.
-    pub fn new(alloc: Global) -> Part<'n>
+    pub fn new(alloc: Global) -> NameSet<'n>
         ensures { result ≡ [] }
     {
-        Part {
+        NameSet {
             names: IndexSet::new(alloc),
         }
     }
@@ -45,10 +45,10 @@ impl<'n> Part<'n> {
     }
 
     /// These names. Memory alone can fail. Linear in them.
-    pub fn of(alloc: Global, names: &'n [Name]) -> Result<Part<'n>, AllocError>
+    pub fn of(alloc: Global, names: &'n [Name]) -> Result<NameSet<'n>, AllocError>
         ensures { IfOk result (λ part. HaveSameNames part names.now) }
     {
-        let mut part = Part::new(alloc);
+        let mut part = NameSet::new(alloc);
         for name in names {
             part.insert(name.as_bytes())?;
         }
@@ -80,17 +80,17 @@ impl<'n> Part<'n> {
 }
 
 /// Whether the record is of one of the names.
-pub fn is_among(names: &[Name], found: &StateRecord<'_, '_>) -> bool
-    ensures { result ≡ is_among names.now found.now }
+pub fn is_among(names: &[Name], entry: &StateRecord<'_, '_>) -> bool
+    ensures { result ≡ is_among names.now entry.now }
 {
-    names.iter().any(|name| found.name() == name.as_bytes())
+    names.iter().any(|name| entry.name() == name.as_bytes())
 }
 
 /// Names among which a package is looked for: a list as it is given, or what is left of a group.
 #[derive(Drop)]
 pub struct Among<'g, 'n> {
     listed: &'g [Name],
-    left: Option<&'g Part<'n>>,
+    left: Option<&'g NameSet<'n>>,
 }
 
 impl<'g, 'n> Model for Among<'g, 'n> {
@@ -104,7 +104,7 @@ impl<'g, 'n> Model for Among<'g, 'n> {
 
 impl<'g, 'n> Among<'g, 'n> {
     /// The names of a list.
-    pub fn listed(names: &'g [Name]) -> Among<'g, 'n>
+    pub fn of_list(names: &'g [Name]) -> Among<'g, 'n>
         ensures { result ≡ names.now }
     {
         Among {
@@ -114,7 +114,7 @@ impl<'g, 'n> Among<'g, 'n> {
     }
 
     /// The names that are left.
-    pub fn left(part: &'g Part<'n>) -> Among<'g, 'n>
+    pub fn of_set(part: &'g NameSet<'n>) -> Among<'g, 'n>
         ensures { result ≡ part.now }
     {
         Among {
@@ -124,12 +124,12 @@ impl<'g, 'n> Among<'g, 'n> {
     }
 
     /// Whether the record is of one of the names. Linear in the names of a list; in the name alone among what is left.
-    pub fn has_record(&self, found: &StateRecord<'_, '_>) -> bool
-        ensures { result ≡ is_among self.now found.now }
+    pub fn has_record(&self, entry: &StateRecord<'_, '_>) -> bool
+        ensures { result ≡ is_among self.now entry.now }
     {
         match self.left {
-            None => is_among(self.listed, found),
-            Some(part) => part.has(found.name()),
+            None => is_among(self.listed, entry),
+            Some(part) => part.has(entry.name()),
         }
     }
 }

@@ -5,7 +5,7 @@ ghost use Rattle.std.specs.List.{All, Contains};
 ghost use Rattle.plancheck_group.specs.Part.{HasWhatPasses, IsPartWith, IsReady};
 
 use crate::configure::{are_configurable, are_pre_depends_installed, are_unbroken};
-use crate::part::Part;
+use crate::part::NameSet;
 use plancheck_state::Records;
 use rules::Name;
 use std::alloc::{AllocError, Global};
@@ -39,7 +39,7 @@ pub fn ready_of(
 }
 
 // Whether the name is one of the part's and isn't ready.
-fn is_unready(db: &Records<'_, '_>, part: &Part<'_>, name: &Name) -> bool
+fn is_unready(db: &Records<'_, '_>, part: &NameSet<'_>, name: &Name) -> bool
     ensures unready { result ≡ true → ¬ IsReady db.now name.now }
     ensures ready { result ≡ false → Contains part.now name.now → IsReady db.now name.now }
 {
@@ -50,7 +50,7 @@ fn is_unready(db: &Records<'_, '_>, part: &Part<'_>, name: &Name) -> bool
 }
 
 // Leaves the name out, if it isn't ready.
-fn leave_out_unready(db: &Records<'_, '_>, part: &mut Part<'_>, name: &Name)
+fn leave_out_unready(db: &Records<'_, '_>, part: &mut NameSet<'_>, name: &Name)
     ensures has { HasWhatPasses db.now part.old part.new }
     ensures ready { Contains part.new name.now → IsReady db.now name.now }
 {
@@ -62,7 +62,7 @@ fn leave_out_unready(db: &Records<'_, '_>, part: &mut Part<'_>, name: &Name)
 
 /// Leaves out those of these names that don't pass the tests which ask nothing of other names. For each that is left linear in
 /// the records.
-pub fn keep_ready(db: &Records<'_, '_>, names: &[Name], part: &mut Part<'_>)
+pub fn keep_ready(db: &Records<'_, '_>, names: &[Name], part: &mut NameSet<'_>)
     ensures has { HasWhatPasses db.now part.old part.new }
     ensures ready { All (λ name. Contains part.new name → IsReady db.now name) names.now }
 {
@@ -72,7 +72,11 @@ pub fn keep_ready(db: &Records<'_, '_>, names: &[Name], part: &mut Part<'_>)
 }
 
 /// Those of the names that are left, copied. Memory alone can fail.
-pub fn names_left(alloc: Global, names: &[Name], part: &Part<'_>) -> Result<Vec<Name>, AllocError>
+pub fn names_left(
+    alloc: Global,
+    names: &[Name],
+    part: &NameSet<'_>,
+) -> Result<Vec<Name>, AllocError>
     ensures { IfOk result (λ left. IsPartWith (Contains part.now) names.now left.items) }
 {
     let mut left = Vec::new(alloc);

@@ -24,8 +24,8 @@ pub one-ascends : (place : ℕ) → IsAscending (place ∷ [])
 one-ascends place i j d earlier within = absurd (omega (arith, earlier, within))
 
 -- what stands where, once a place is put among the others
-record Stands (places : List ℕ) (at place k found : ℕ) : Type 0 where
-  pub is : ((k < at) × (found ≡ get_or places k 0)) ⊎ (((k ≡ at) × (found ≡ place)) ⊎ ((m : ℕ) × (k ≡ m + 1) × (at ≤ m) × (m < length places) × (found ≡ get_or places m 0)))
+record Stands (places : List ℕ) (at place k value : ℕ) : Type 0 where
+  pub is : ((k < at) × (value ≡ get_or places k 0)) ⊎ (((k ≡ at) × (value ≡ place)) ⊎ ((m : ℕ) × (k ≡ m + 1) × (at ≤ m) × (m < length places) × (value ≡ get_or places m 0)))
 
 stands : (places : List ℕ) (at place k d : ℕ) → at ≤ length places → k < length (insert places at place)
     → Stands places at place k (get_or (insert places at place) k d)

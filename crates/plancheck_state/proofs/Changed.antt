@@ -38,4 +38,4 @@ changed_by_place test change old new same each =
     each k blank inside ∙ sym (get_or-map step old k blank blank inside))
   where
     step : Record → Record
-    step found = cond (test found) (change found) found
+    step entry = cond (test entry) (change entry) entry

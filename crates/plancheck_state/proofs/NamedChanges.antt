@@ -18,13 +18,13 @@ use Rattle.plancheck_state.proofs.ListedLemmas.{at-place, place-at}
 
 -- a record with the change, if it is of the name
 abbrev step : List ℕ → (Record → Record) → Record → Record
-step name change found = cond (is_named name found) (change found) found
+step name change entry = cond (is_named name entry) (change entry) entry
 
-step-named : (name : List ℕ) (change : Record → Record) (found : Record) → is_named name found ≡ true → step name change found ≡ change found
-step-named name change found named = rw named refl
+step-named : (name : List ℕ) (change : Record → Record) (entry : Record) → is_named name entry ≡ true → step name change entry ≡ change entry
+step-named name change entry named = rw named refl
 
-step-other : (name : List ℕ) (change : Record → Record) (found : Record) → is_named name found ≡ false → step name change found ≡ found
-step-other name change found other = rw other refl
+step-other : (name : List ℕ) (change : Record → Record) (entry : Record) → is_named name entry ≡ false → step name change entry ≡ entry
+step-other name change entry other = rw other refl
 
 -- records at two places have two names
 apart : (db : List Record) (k place : ℕ) (d : Record) → HasDistinctNames db → k ≢ place → k < length db → place < length db
@@ -41,7 +41,7 @@ pub unnamed : (name : List ℕ) (db : List Record) (place k : ℕ) (d : Record) 
     → k < length db → is_named name (get_or db k d) ≡ false
 unnamed name db place k d distinct is other within = by (is_named name (get_or db k d)) refl
   where
-    at : (found : Record) × (slice_get db place ≡ Some found) × (is_named name found ≡ true)
+    at : (entry : Record) × (slice_get db place ≡ Some entry) × (is_named name entry ≡ true)
     at = place-at name db place is
 
     by : (b : Bool) → is_named name (get_or db k d) ≡ b → b ≡ false
@@ -56,7 +56,7 @@ pub changed-at : (name : List ℕ) (change : Record → Record) (db : List Recor
 changed-at name change db place old new distinct is old_is new_is =
     changed_by_place (is_named name) change db (slice_set db place new) (length-set db place new) each
   where
-    at : (found : Record) × (slice_get db place ≡ Some found) × (is_named name found ≡ true)
+    at : (entry : Record) × (slice_get db place ≡ Some entry) × (is_named name entry ≡ true)
     at = place-at name db place is
 
     there : (d : Record) → get_or db place d ≡ at.0
@@ -84,63 +84,63 @@ pub changed-nowhere : (name : List ℕ) (change : Record → Record) (db : List 
 changed-nowhere name change [] none = refl
 changed-nowhere name change (first ∷ db) none = let parts = neither (is_named name first) (list_any (is_named name) db) none in
     ap (λ rest. first ∷ rest) (changed-nowhere name change db parts.1)
-    ∙ ap (λ found. found ∷ changed (is_named name) change db) (sym (step-other name change first parts.0))
+    ∙ ap (λ entry. entry ∷ changed (is_named name) change db) (sym (step-other name change first parts.0))
 
 pub kept-nowhere : (name : List ℕ) (db : List Record) → list_any (is_named name) db ≡ false
-    → db ≡ filter (λ found. not (is_named name found)) db
+    → db ≡ filter (λ entry. not (is_named name entry)) db
 kept-nowhere name [] none = refl
 kept-nowhere name (first ∷ db) none = let parts = neither (is_named name first) (list_any (is_named name) db) none in
     rw parts.0 (ap (λ rest. first ∷ rest) (kept-nowhere name db parts.1))
 
 -- what is purged by name is taken out at its place
 pub purged-at : (name : List ℕ) (db : List Record) (place : ℕ) → HasDistinctNames db → IsPlaceOf name db place
-    → remove db place ≡ filter (λ found. not (is_named name found)) db
+    → remove db place ≡ filter (λ entry. not (is_named name entry)) db
 purged-at name db place distinct is = let at = place-at name db place is in
     taken db place at.0 at.1 at.2 (λ k d within other. unnamed name db place k d distinct is other within)
   where
     none : (db : List Record) → ((k : ℕ) (d : Record) → k < length db → is_named name (get_or db k d) ≡ false)
-        → db ≡ filter (λ found. not (is_named name found)) db
+        → db ≡ filter (λ entry. not (is_named name entry)) db
     none [] each = refl
     none (first ∷ db) each = rw (each 0 first (omega arith))
         (ap (λ rest. first ∷ rest) (none db (λ k d within. each (suc k) d (omega (arith, within)))))
 
-    taken : (db : List Record) (place : ℕ) (found : Record) → slice_get db place ≡ Some found → is_named name found ≡ true
+    taken : (db : List Record) (place : ℕ) (entry : Record) → slice_get db place ≡ Some entry → is_named name entry ≡ true
         → ((k : ℕ) (d : Record) → k < length db → k ≢ place → is_named name (get_or db k d) ≡ false)
-        → remove db place ≡ filter (λ found. not (is_named name found)) db
-    taken [] place found there named each = absurd (let h = there in cc)
-    taken (first ∷ db) zero found there named each = let same : first ≡ found = let h = there in cc in
+        → remove db place ≡ filter (λ entry. not (is_named name entry)) db
+    taken [] place entry there named each = absurd (let h = there in cc)
+    taken (first ∷ db) zero entry there named each = let same : first ≡ entry = let h = there in cc in
         rw (ap (is_named name) same ∙ named) (none db (λ k d within. each (suc k) d (omega (arith, within)) (omega arith)))
-    taken (first ∷ db) (suc place) found there named each =
-        rw (each 0 first (omega arith) (omega arith)) (ap (λ rest. first ∷ rest) (taken db place found there named
+    taken (first ∷ db) (suc place) entry there named each =
+        rw (each 0 first (omega arith) (omega arith)) (ap (λ rest. first ∷ rest) (taken db place entry there named
         (λ k d within other. each (suc k) d (omega (arith, within)) (omega (arith, other)))))
 
 -- a change that keeps names keeps them distinct
-pub distinct-changed : (test : Record → Bool) (change : Record → Record) (db : List Record) → ((found : Record) → (change found).name ≡ found.name)
+pub distinct-changed : (test : Record → Bool) (change : Record → Record) (db : List Record) → ((entry : Record) → (change entry).name ≡ entry.name)
     → HasDistinctNames db → HasDistinctNames (changed test change db)
 unfolding HasDistinctNames
 distinct-changed test change db kept distinct i j d before within same =
     distinct i j d before inside (sym (named i (omega (arith, before, inside))) ∙ same ∙ named j inside)
   where
     inside : j < length db
-    inside = subst (λ n. j < n) (length-map db (λ found. cond (test found) (change found) found)) within
+    inside = subst (λ n. j < n) (length-map db (λ entry. cond (test entry) (change entry) entry)) within
 
-    name-kept : (b : Bool) (found : Record) → (cond b (change found) found).name ≡ found.name
-    name-kept true found = kept found
-    name-kept false found = refl
+    name-kept : (b : Bool) (entry : Record) → (cond b (change entry) entry).name ≡ entry.name
+    name-kept true entry = kept entry
+    name-kept false entry = refl
 
     named : (k : ℕ) → k < length db → (get_or (changed test change db) k d).name ≡ (get_or db k d).name
-    named k k_within = ap (λ (r : Record). r.name) (get_or-map (λ found. cond (test found) (change found) found) db k d d k_within)
+    named k k_within = ap (λ (r : Record). r.name) (get_or-map (λ entry. cond (test entry) (change entry) entry) db k d d k_within)
         ∙ name-kept (test (get_or db k d)) (get_or db k d)
 
 -- a record that was configured is configured once more in vain
-twice : (name : List ℕ) (among : Bool) (found : Record)
-    → step name configured (cond among (configured found) found) ≡ cond (among || is_named name found) (configured found) found
-twice name true found = by (is_named name found)
+twice : (name : List ℕ) (among : Bool) (entry : Record)
+    → step name configured (cond among (configured entry) entry) ≡ cond (among || is_named name entry) (configured entry) entry
+twice name true entry = by (is_named name entry)
   where
-    by : (b : Bool) → cond b (configured (configured found)) (configured found) ≡ configured found
+    by : (b : Bool) → cond b (configured (configured entry)) (configured entry) ≡ configured entry
     by true = refl
     by false = refl
-twice name false found = refl
+twice name false entry = refl
 
 -- the package of the next name is configured
 pub configured-next : (names : List (List ℕ)) (index : ℕ) (name : List ℕ) (db : List Record) → index < length names → name ≡ get_or names index name
@@ -151,45 +151,45 @@ configured-next names index name db within is = each db
     or_false true = refl
     or_false false = refl
 
-    among : (found : Record) → is_among (take (index + 1) names) found ≡ (is_among (take index names) found || is_named name found)
-    among found = ap (λ some. is_among some found) (take_more names index name within)
-        ∙ list_any-append (λ n. is_named n found) (take index names) (get_or names index name ∷ [])
-        ∙ ap (λ b. is_among (take index names) found || b) (or_false (is_named (get_or names index name) found))
-        ∙ ap (λ n. is_among (take index names) found || is_named n found) (sym is)
+    among : (entry : Record) → is_among (take (index + 1) names) entry ≡ (is_among (take index names) entry || is_named name entry)
+    among entry = ap (λ some. is_among some entry) (take_more names index name within)
+        ∙ list_any-append (λ n. is_named n entry) (take index names) (get_or names index name ∷ [])
+        ∙ ap (λ b. is_among (take index names) entry || b) (or_false (is_named (get_or names index name) entry))
+        ∙ ap (λ n. is_among (take index names) entry || is_named n entry) (sym is)
 
     each : (db : List Record) → changed (is_named name) configured (changed (is_among (take index names)) configured db)
         ≡ changed (is_among (take (index + 1) names)) configured db
     each [] = refl
-    each (found ∷ db) = ap (λ first. first ∷ changed (is_named name) configured (changed (is_among (take index names)) configured db))
-        (twice name (is_among (take index names) found) found ∙ ap (λ b. cond b (configured found) found) (sym (among found)))
-        ∙ ap (λ rest. cond (is_among (take (index + 1) names) found) (configured found) found ∷ rest) (each db)
+    each (entry ∷ db) = ap (λ first. first ∷ changed (is_named name) configured (changed (is_among (take index names)) configured db))
+        (twice name (is_among (take index names) entry) entry ∙ ap (λ b. cond b (configured entry) entry) (sym (among entry)))
+        ∙ ap (λ rest. cond (is_among (take (index + 1) names) entry) (configured entry) entry ∷ rest) (each db)
 
 -- with no names nothing is configured
 pub configured-none : (db : List Record) → db ≡ changed (is_among []) configured db
 configured-none [] = refl
-configured-none (found ∷ db) = ap (λ rest. found ∷ rest) (configured-none db)
+configured-none (entry ∷ db) = ap (λ rest. entry ∷ rest) (configured-none db)
 
 -- the record of the next name is present
 pub present-next : (names : List (List ℕ)) (index : ℕ) (name : List ℕ) (db : List Record) → index < length names → name ≡ get_or names index name
-    → All (λ found. is_among names found ≡ true → IsPresent found) db
-    → All (λ found. is_named name found ≡ true → IsPresent found) (changed (is_among (take index names)) configured db)
-present-next names index name db within is present = All-intro (λ found. is_named name found ≡ true → IsPresent found)
-    (changed (is_among (take index names)) configured db) (λ found there named.
-    let from = Contains-map step_of db found there in
+    → All (λ entry. is_among names entry ≡ true → IsPresent entry) db
+    → All (λ entry. is_named name entry ≡ true → IsPresent entry) (changed (is_among (take index names)) configured db)
+present-next names index name db within is present = All-intro (λ entry. is_named name entry ≡ true → IsPresent entry)
+    (changed (is_among (take index names)) configured db) (λ entry there named.
+    let from = Contains-map step_of db entry there in
     subst IsPresent from.2 (by (is_among (take index names) from.0) from.0 from.1
     (sym (name-kept (is_among (take index names) from.0) from.0) ∙ ap (is_named name) from.2 ∙ named)))
   where
     step_of : Record → Record
-    step_of found = cond (is_among (take index names) found) (configured found) found
+    step_of entry = cond (is_among (take index names) entry) (configured entry) entry
 
-    name-kept : (b : Bool) (found : Record) → is_named name (cond b (configured found) found) ≡ is_named name found
-    name-kept true found = refl
-    name-kept false found = refl
+    name-kept : (b : Bool) (entry : Record) → is_named name (cond b (configured entry) entry) ≡ is_named name entry
+    name-kept true entry = refl
+    name-kept false entry = refl
 
-    by : (b : Bool) (found : Record) → Contains db found → is_named name found ≡ true → IsPresent (cond b (configured found) found)
-    by true found there named = refl
-    by false found there named = All-contains (λ (r : Record). is_among names r ≡ true → IsPresent r) db found present there
-        (list_any-from_contains (λ n. is_named n found) names name (index, within, sym is) named)
+    by : (b : Bool) (entry : Record) → Contains db entry → is_named name entry ≡ true → IsPresent (cond b (configured entry) entry)
+    by true entry there named = refl
+    by false entry there named = All-contains (λ (r : Record). is_among names r ≡ true → IsPresent r) db entry present there
+        (list_any-from_contains (λ n. is_named n entry) names name (index, within, sym is) named)
 
 -- a record of a place is a record
 pub place-there : (name : List ℕ) (db : List Record) (place : ℕ) → IsPlaceOf name db place → list_any (is_named name) db ≡ true

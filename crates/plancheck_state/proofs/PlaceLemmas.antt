@@ -97,18 +97,18 @@ added-last [] list = refl
 added-last (first ∷ lists) list = added-last lists list
 
 -- the number that was found is one of the lists'
-pub number-within : (found : Option (Bor ℕ)) (numbers : List ℕ) (count number : ℕ) → All (λ n. n < count) numbers
-    → IfSome found (λ (n : Bor ℕ). IsAmong numbers n.now) → option_copied found ≡ Some number → number < count
+pub number-within : (item : Option (Bor ℕ)) (numbers : List ℕ) (count number : ℕ) → All (λ n. n < count) numbers
+    → IfSome item (λ (n : Bor ℕ). IsAmong numbers n.now) → option_copied item ≡ Some number → number < count
 number-within None numbers count number all among is = absurd (let h = is in cc)
-number-within (Some found) numbers count number all among is = let same : found.now ≡ number = let h = is in cc in
-    subst (λ n. n < count) (sym among.1.1 ∙ same) (all among.0 found.now among.1.0)
+number-within (Some item) numbers count number all among is = let same : item.now ≡ number = let h = is in cc in
+    subst (λ n. n < count) (sym among.1.1 ∙ same) (all among.0 item.now among.1.0)
 
 -- the list of the number holds the places of the name
 pub places-read : (name : List ℕ) (lists : List (List ℕ)) (es : List (Bor (List ℕ) × ℕ)) (number : ℕ) (list : List ℕ)
     → number_of name es ≡ Some number → number < length lists → list ≡ get_or lists number list → list ≡ places_in (listed lists es) name
 places-read name lists es number list e within is =
     sym (places-listed name lists es ∙ ap (list_at lists) e
-    ∙ ap (λ found. unwrap_or found []) (slice_get_read lists (length lists) number list refl within is))
+    ∙ ap (λ list. unwrap_or list []) (slice_get_read lists (length lists) number list refl within is))
 
 -- where a list is put in the place of one whose places it keeps, each list keeps its places
 pub set-keeps : (lists : List (List ℕ)) (at : ℕ) (list : List ℕ) → All (Contains list) (get_or lists at [])
@@ -146,12 +146,12 @@ entered-has (Err failed) name new es at place ok is = tt
 pub keeps-new : (lists new : List (List ℕ)) (es : List (Bor (List ℕ) × ℕ)) (list : List ℕ) → new ≡ lists ++ list ∷ []
     → KeepsPlaces (places_in (listed lists es)) (places_in (listed new es))
 keeps-new lists new es list is = keeps-lists lists new es (λ number place within.
-    subst (λ found. Contains (get_or found number []) place) (sym is) (keeps-added lists list number place within))
+    subst (λ table. Contains (get_or table number []) place) (sym is) (keeps-added lists list number place within))
 
 pub keeps-both : (lists new : List (List ℕ)) (es entered : List (Bor (List ℕ) × ℕ)) (list : List ℕ) (e : Bor (List ℕ) × ℕ)
     → new ≡ lists ++ list ∷ [] → entered ≡ es ++ e ∷ [] → KeepsPlaces (places_in (listed lists es)) (places_in (listed new entered))
 keeps-both lists new es entered list e is entered_is name place within =
-    subst (λ (found : List (Bor (List ℕ) × ℕ)). Contains (places_in (listed new found) name) place) (sym entered_is)
+    subst (λ (others : List (Bor (List ℕ) × ℕ)). Contains (places_in (listed new others) name) place) (sym entered_is)
     (keeps-more new es e name place (keeps-new lists new es list is name place within))
 
 -- and is that of the name
@@ -163,9 +163,9 @@ both-has name lists new es entered list e place is entered_is list_is none named
     (sym (list_is_that ∙ list_is)) (Contains-head place [])
   where
     list_is_that : places_in (listed new entered) name ≡ list
-    list_is_that = ap (λ (found : List (Bor (List ℕ) × ℕ)). places_in (listed new found) name) entered_is
+    list_is_that = ap (λ (others : List (Bor (List ℕ) × ℕ)). places_in (listed new others) name) entered_is
         ∙ places-at name new (es ++ e ∷ []) e.1 (number-added name es e none (bytes_eq-same name e.0.now (sym named)))
-        ∙ ap (λ found. get_or found e.1 []) is ∙ ap (λ number. get_or (lists ++ list ∷ []) number []) numbered ∙ added-last lists list
+        ∙ ap (λ table. get_or table e.1 []) is ∙ ap (λ number. get_or (lists ++ list ∷ []) number []) numbered ∙ added-last lists list
 
 -- each number stays one of the lists'
 pub within-both : (lists new : List (List ℕ)) (es entered : List (Bor (List ℕ) × ℕ)) (list : List ℕ) (e : Bor (List ℕ) × ℕ)
@@ -183,7 +183,7 @@ within-both lists new es entered list e all is entered_is numbered =
 pub closed-places : (gone : ℕ) (name : List ℕ) (lists new : List (List ℕ)) (es : List (Bor (List ℕ) × ℕ)) → new ≡ map (places_left gone) lists
     → places_in (listed new es) name ≡ places_left gone (places_in (listed lists es) name)
 closed-places gone name lists new es is =
-    places-listed name new es ∙ ap (λ found. list_at found (number_of name es)) is ∙ by (number_of name es)
+    places-listed name new es ∙ ap (λ table. list_at table (number_of name es)) is ∙ by (number_of name es)
     ∙ ap (places_left gone) (sym (places-listed name lists es))
   where
     at : (o : Option (List ℕ)) → unwrap_or (option_map (places_left gone) o) [] ≡ places_left gone (unwrap_or o [])
@@ -192,7 +192,7 @@ closed-places gone name lists new es is =
 
     by : (o : Option ℕ) → list_at (map (places_left gone) lists) o ≡ places_left gone (list_at lists o)
     by None = refl
-    by (Some number) = ap (λ found. unwrap_or found []) (slice_get-map (places_left gone) lists number) ∙ at (slice_get lists number)
+    by (Some number) = ap (λ list. unwrap_or list []) (slice_get-map (places_left gone) lists number) ∙ at (slice_get lists number)
 
 -- a list that is written over one of its length
 pub refilled : {X : Type 0} (items new : List X) (count : ℕ) → count ≡ length items → length new ≡ length items

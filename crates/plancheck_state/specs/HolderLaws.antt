@@ -15,8 +15,8 @@ or_true true b h = refl
 or_true false b h = h
 
 -- a record of the name holds it
-pub named-holds : (name : List ℕ) (found : Record) → found.name ≡ name → is_holder name found ≡ true
-named-holds name found same = rw (bytes_eq-same found.name name same) refl
+pub named-holds : (name : List ℕ) (entry : Record) → entry.name ≡ name → is_holder name entry ≡ true
+named-holds name entry same = rw (bytes_eq-same entry.name name same) refl
 
 -- an item that fits the atom is of its name
 fits-item : (item : Provided) (atom : Atom) → FitsProvided item atom → is_item_of atom.name item ≡ true
@@ -24,62 +24,62 @@ unfolding FitsProvided
 fits-item item atom fits = rw (fits.0, bytes_eq-same item.name atom.name fits.1) refl
 
 -- what provides something that fits the atom holds its name
-pub providing-holds : (found : Record) (atom : Atom) → FitsByProvides (pkg_of found) atom → is_holder atom.name found ≡ true
+pub providing-holds : (entry : Record) (atom : Atom) → FitsByProvides (pkg_of entry) atom → is_holder atom.name entry ≡ true
 unfolding FitsByProvides
-providing-holds found atom some = or_true (bytes_eq found.name atom.name) (list_any (is_item_of atom.name) found.relations.provides)
-    (Any-elim (λ item. FitsProvided item atom) found.relations.provides (list_any (is_item_of atom.name) found.relations.provides ≡ true)
-    (λ item within fits. list_any-from_contains (is_item_of atom.name) found.relations.provides item within (fits-item item atom fits)) some)
+providing-holds entry atom some = or_true (bytes_eq entry.name atom.name) (list_any (is_item_of atom.name) entry.relations.provides)
+    (Any-elim (λ item. FitsProvided item atom) entry.relations.provides (list_any (is_item_of atom.name) entry.relations.provides ≡ true)
+    (λ item within fits. list_any-from_contains (is_item_of atom.name) entry.relations.provides item within (fits-item item atom fits)) some)
 
 -- what matches the atom holds its name
-pub matching-holds : (found : Record) (atom : Atom) → Matches (pkg_of found) atom → is_holder atom.name found ≡ true
+pub matching-holds : (entry : Record) (atom : Atom) → Matches (pkg_of entry) atom → is_holder atom.name entry ≡ true
 unfolding Matches FitsByName
-matching-holds found atom matches = elim matches.1 [
-  | inl own ↦ named-holds atom.name found own.0
-  | inr provided ↦ providing-holds found atom provided
+matching-holds entry atom matches = elim matches.1 [
+  | inl own ↦ named-holds atom.name entry own.0
+  | inr provided ↦ providing-holds entry atom provided
 ]
 
 -- what only holders of the name have, a record of the database has where a holder has it
 pub holders-any : (P : Record → Type 0) (name : List ℕ) (db holders : List Record) → AreHolders name db holders
-    → ((found : Record) → P found → is_holder name found ≡ true) → Any P holders ↔ Any P db
+    → ((entry : Record) → P entry → is_holder name entry ≡ true) → Any P holders ↔ Any P db
 holders-any P name db holders are held = (
-  λ some. Any-elim P holders (Any P db) (λ found within has.
-      Any-intro P db found (All-contains (Contains db) holders found are.within within) has) some,
-  λ some. Any-elim P db (Any P holders) (λ found within has.
-      Any-intro P holders found (are.each found within (held found has)) has) some,
+  λ some. Any-elim P holders (Any P db) (λ entry within has.
+      Any-intro P db entry (All-contains (Contains db) holders entry are.within within) has) some,
+  λ some. Any-elim P db (Any P holders) (λ entry within has.
+      Any-intro P holders entry (are.each entry within (held entry has)) has) some,
 )
 
 -- what each record has that isn't a holder of the name, each record of the database has where each holder has it
 pub holders-all : (P : Record → Type 0) (name : List ℕ) (db holders : List Record) → AreHolders name db holders
-    → ((found : Record) → is_holder name found ≡ false → P found) → All P holders ↔ All P db
+    → ((entry : Record) → is_holder name entry ≡ false → P entry) → All P holders ↔ All P db
 holders-all P name db holders are others = (
-  λ all. All-intro P db (λ found within. by (is_holder name found) found refl within all),
-  λ all. All-intro P holders (λ found within. All-contains P db found all (All-contains (Contains db) holders found are.within within)),
+  λ all. All-intro P db (λ entry within. by (is_holder name entry) entry refl within all),
+  λ all. All-intro P holders (λ entry within. All-contains P db entry all (All-contains (Contains db) holders entry are.within within)),
 )
   where
-    by : (b : Bool) (found : Record) → is_holder name found ≡ b → Contains db found → All P holders → P found
-    by true found e within all = All-contains P holders found all (are.each found within e)
-    by false found e within all = others found e
+    by : (b : Bool) (entry : Record) → is_holder name entry ≡ b → Contains db entry → All P holders → P entry
+    by true entry e within all = All-contains P holders entry all (are.each entry within e)
+    by false entry e within all = others entry e
 
 -- the record of the name has a property where it is so among the holders
 pub holders-named : (P : Record → Type 0) (name : List ℕ) (db holders : List Record) → AreHolders name db holders
     → HasRecord P name holders ↔ HasRecord P name db
 holders-named P name db holders are =
-    holders-any (λ found. (found.name ≡ name) × P found) name db holders are (λ found has. named-holds name found has.0)
+    holders-any (λ entry. (entry.name ≡ name) × P entry) name db holders are (λ entry has. named-holds name entry has.0)
 
 -- a record matches an atom of the list where an atom of it is matched by one
 pub some-by-atoms : (P : Record → Type 0) (db : List Record) (atoms : List Atom)
-    → Any (λ atom. Any (λ found. P found × Matches (pkg_of found) atom) db) atoms ↔ Any (λ found. P found × MatchesSome (pkg_of found) atoms) db
+    → Any (λ atom. Any (λ entry. P entry × Matches (pkg_of entry) atom) db) atoms ↔ Any (λ entry. P entry × MatchesSome (pkg_of entry) atoms) db
 unfolding MatchesSome
 some-by-atoms P db atoms = (
-  λ some. Any-elim (λ atom. Any (λ found. P found × Matches (pkg_of found) atom) db) atoms
-      (Any (λ found. P found × Any (Matches (pkg_of found)) atoms) db)
-      (λ atom within found. Any-weaker (λ found. P found × Matches (pkg_of found) atom)
-      (λ found. P found × Any (Matches (pkg_of found)) atoms) db
-      (λ found there both. (both.0, Any-intro (Matches (pkg_of found)) atoms atom within both.1)) found) some,
-  λ met. Any-elim (λ found. P found × Any (Matches (pkg_of found)) atoms) db
-      (Any (λ atom. Any (λ found. P found × Matches (pkg_of found) atom) db) atoms)
-      (λ found there both. Any-weaker (Matches (pkg_of found)) (λ atom. Any (λ found. P found × Matches (pkg_of found) atom) db) atoms
-      (λ atom within matches. Any-intro (λ found. P found × Matches (pkg_of found) atom) db found there (both.0, matches)) both.1) met,
+  λ some. Any-elim (λ atom. Any (λ entry. P entry × Matches (pkg_of entry) atom) db) atoms
+      (Any (λ entry. P entry × Any (Matches (pkg_of entry)) atoms) db)
+      (λ atom within has. Any-weaker (λ entry. P entry × Matches (pkg_of entry) atom)
+      (λ entry. P entry × Any (Matches (pkg_of entry)) atoms) db
+      (λ entry there both. (both.0, Any-intro (Matches (pkg_of entry)) atoms atom within both.1)) has) some,
+  λ met. Any-elim (λ entry. P entry × Any (Matches (pkg_of entry)) atoms) db
+      (Any (λ atom. Any (λ entry. P entry × Matches (pkg_of entry) atom) db) atoms)
+      (λ entry there both. Any-weaker (Matches (pkg_of entry)) (λ atom. Any (λ entry. P entry × Matches (pkg_of entry) atom) db) atoms
+      (λ atom within matches. Any-intro (λ entry. P entry × Matches (pkg_of entry) atom) db entry there (both.0, matches)) both.1) met,
 )
 
 -- each record of these names has a property where for each name the record of it has

@@ -11,17 +11,17 @@ use Rattle.index.specs.Providers.{is_item_of, is_provider}
 
 -- the record has the name or its package provides it, as a test
 abbrev pub is_holder : List ℕ → Record → Bool
-is_holder name found = is_provider name (pkg_of found)
+is_holder name entry = is_provider name (pkg_of entry)
 
 -- these records of the database, the holders of the name among them
 pub record AreHolders (name : List ℕ) (db holders : List Record) : Type 0 where
   pub within : All (Contains db) holders
-  pub each : (found : Record) → Contains db found → is_holder name found ≡ true → Contains holders found
+  pub each : (entry : Record) → Contains db entry → is_holder name entry ≡ true → Contains holders entry
 
 -- each holder of a name stands at a place that is listed for the name
 abbrev pub AreListed : (List ℕ → List ℕ) → List Record → Type 0
-AreListed places db = (name : List ℕ) (place : ℕ) (found : Record) → slice_get db place ≡ Some found
-    → is_holder name found ≡ true → Contains (places name) place
+AreListed places db = (name : List ℕ) (place : ℕ) (entry : Record) → slice_get db place ≡ Some entry
+    → is_holder name entry ≡ true → Contains (places name) place
 
 -- each place that was listed is listed still
 abbrev pub KeepsPlaces : (List ℕ → List ℕ) → (List ℕ → List ℕ) → Type 0

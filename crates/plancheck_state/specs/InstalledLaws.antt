@@ -9,44 +9,44 @@ use Rattle.rules.specs.Sound.{MatchedByNoOther}
 use Rattle.rules.specs.State.{is_installed_state}
 
 -- some installed package has the property
-pub some_installed : (P : Pkg → Type 0) (db : List Record) → Any (λ found. IsInstalled found × P (pkg_of found)) db
+pub some_installed : (P : Pkg → Type 0) (db : List Record) → Any (λ entry. IsInstalled entry × P (pkg_of entry)) db
     → Any P (installed_of db)
-some_installed P db some = Any-map_filter P pkg_of (λ found. is_installed_state found.state) db some
+some_installed P db some = Any-map_filter P pkg_of (λ entry. is_installed_state entry.state) db some
 
 pub installed_some : (P : Pkg → Type 0) (db : List Record) → Any P (installed_of db)
-    → Any (λ found. IsInstalled found × P (pkg_of found)) db
-installed_some P db some = Any-filter_map P pkg_of (λ found. is_installed_state found.state) db some
+    → Any (λ entry. IsInstalled entry × P (pkg_of entry)) db
+installed_some P db some = Any-filter_map P pkg_of (λ entry. is_installed_state entry.state) db some
 
 -- each installed package has the property
-pub all_installed : (P : Pkg → Type 0) (db : List Record) → All (λ found. IsInstalled found → P (pkg_of found)) db
+pub all_installed : (P : Pkg → Type 0) (db : List Record) → All (λ entry. IsInstalled entry → P (pkg_of entry)) db
     → All P (installed_of db)
 all_installed P db all = All-intro P (installed_of db) (λ pkg within.
-    let from = Contains-map pkg_of (filter (λ (found : Record). is_installed_state found.state) db) pkg within in
-    let kept = Contains-filter (λ (found : Record). is_installed_state found.state) db from.0 from.1 in
-    subst P from.2 (All-contains (λ found. IsInstalled found → P (pkg_of found)) db from.0 all kept.0 kept.1))
+    let from = Contains-map pkg_of (filter (λ (entry : Record). is_installed_state entry.state) db) pkg within in
+    let kept = Contains-filter (λ (entry : Record). is_installed_state entry.state) db from.0 from.1 in
+    subst P from.2 (All-contains (λ entry. IsInstalled entry → P (pkg_of entry)) db from.0 all kept.0 kept.1))
 
 pub installed_all : (P : Pkg → Type 0) (db : List Record) → All P (installed_of db)
-    → All (λ found. IsInstalled found → P (pkg_of found)) db
-installed_all P db all = All-intro (λ found. IsInstalled found → P (pkg_of found)) db (λ found within is.
-    All-contains P (installed_of db) (pkg_of found) all
-    (Contains-map_intro pkg_of (filter (λ (r : Record). is_installed_state r.state) db) found
-    (Contains-filter_intro (λ (r : Record). is_installed_state r.state) db found within is)))
+    → All (λ entry. IsInstalled entry → P (pkg_of entry)) db
+installed_all P db all = All-intro (λ entry. IsInstalled entry → P (pkg_of entry)) db (λ entry within is.
+    All-contains P (installed_of db) (pkg_of entry) all
+    (Contains-map_intro pkg_of (filter (λ (r : Record). is_installed_state r.state) db) entry
+    (Contains-filter_intro (λ (r : Record). is_installed_state r.state) db entry within is)))
 
 -- an installed package matches an atom of the clause where an atom of it is matched by one
 pub met_by_atoms : (db : List Record) (atoms : List Atom)
-    → Any (λ atom. Any (λ found. IsInstalled found × Matches (pkg_of found) atom) db) atoms ↔ MeetsClause (installed_of db) atoms
+    → Any (λ atom. Any (λ entry. IsInstalled entry × Matches (pkg_of entry) atom) db) atoms ↔ MeetsClause (installed_of db) atoms
 unfolding MeetsClause MatchesSome
 met_by_atoms db atoms = (
   λ some. some_installed (λ member. Any (Matches member) atoms) db
-      (Any-elim (λ atom. Any (λ found. IsInstalled found × Matches (pkg_of found) atom) db) atoms
-      (Any (λ found. IsInstalled found × Any (Matches (pkg_of found)) atoms) db)
-      (λ atom within found. Any-weaker (λ found. IsInstalled found × Matches (pkg_of found) atom)
-      (λ found. IsInstalled found × Any (Matches (pkg_of found)) atoms) db
-      (λ found there both. (both.0, Any-intro (Matches (pkg_of found)) atoms atom within both.1)) found) some),
-  λ met. Any-elim (λ found. IsInstalled found × Any (Matches (pkg_of found)) atoms) db
-      (Any (λ atom. Any (λ found. IsInstalled found × Matches (pkg_of found) atom) db) atoms)
-      (λ found there both. Any-weaker (Matches (pkg_of found)) (λ atom. Any (λ found. IsInstalled found × Matches (pkg_of found) atom) db) atoms
-      (λ atom within matches. Any-intro (λ found. IsInstalled found × Matches (pkg_of found) atom) db found there (both.0, matches)) both.1)
+      (Any-elim (λ atom. Any (λ entry. IsInstalled entry × Matches (pkg_of entry) atom) db) atoms
+      (Any (λ entry. IsInstalled entry × Any (Matches (pkg_of entry)) atoms) db)
+      (λ atom within has. Any-weaker (λ entry. IsInstalled entry × Matches (pkg_of entry) atom)
+      (λ entry. IsInstalled entry × Any (Matches (pkg_of entry)) atoms) db
+      (λ entry there both. (both.0, Any-intro (Matches (pkg_of entry)) atoms atom within both.1)) has) some),
+  λ met. Any-elim (λ entry. IsInstalled entry × Any (Matches (pkg_of entry)) atoms) db
+      (Any (λ atom. Any (λ entry. IsInstalled entry × Matches (pkg_of entry) atom) db) atoms)
+      (λ entry there both. Any-weaker (Matches (pkg_of entry)) (λ atom. Any (λ entry. IsInstalled entry × Matches (pkg_of entry) atom) db) atoms
+      (λ atom within matches. Any-intro (λ entry. IsInstalled entry × Matches (pkg_of entry) atom) db entry there (both.0, matches)) both.1)
       (installed_some (λ member. Any (Matches member) atoms) db met),
 )
 

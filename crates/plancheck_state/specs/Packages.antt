@@ -7,8 +7,8 @@ use Rattle.rules.specs.State.{is_present_state}
 
 -- the package of a record, if it is present
 abbrev pub present_pkg : Record → Option Pkg
-present_pkg found = if is_present_state found.state then Some (pkg_of found) else None
+present_pkg entry = if is_present_state entry.state then Some (pkg_of entry) else None
 
 -- the packages of the records of these entries, of each that is present
 abbrev pub packages_of : List FileRecord → List (Option Pkg)
-packages_of entries = map (λ entry. present_pkg entry.found) entries
+packages_of entries = map (λ entry. present_pkg entry.status) entries

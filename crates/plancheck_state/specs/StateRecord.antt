@@ -7,4 +7,4 @@ use Rattle.rules.specs.declared.status.State.{State}
 -- there is a package just where the record is present, and it has the record's name and version
 pub record HasItsPkg (state : State) (name : List ℕ) (version : Option (List ℕ)) (pkg : Option Pkg) : Type 0 where
   pub there : is_some pkg ≡ is_present_state state
-  pub same : MatchOption pkg ⊤ (λ found. (found.name ≡ name) × (version ≡ Some found.version))
+  pub same : MatchOption pkg ⊤ (λ one. (one.name ≡ name) × (version ≡ Some one.version))

@@ -46,8 +46,8 @@ impl<'v, 'p, 'a> Iterator for Holders<'v, 'p, 'a> {
     fn next(&mut self) -> Option<&'v StateRecord<'p, 'a>> {
         while let Some((place, others)) = self.places.split_first() {
             self.places = others;
-            if let Some(found) = self.records.get(*place) {
-                return Some(found);
+            if let Some(entry) = self.records.get(*place) {
+                return Some(entry);
             }
         }
         None

@@ -15,30 +15,33 @@ use debversion::Version;
 use relation::{Atom, Clause, Pkg};
 
 // Whether the record is installed and matches the atom.
-fn matches_installed(found: &StateRecord<'_, '_>, atom: &Atom<'_>) -> bool
-    ensures { IsTrue result ↔ (IsInstalled found.now × Matches (pkg_of found.now) atom.now) }
+fn matches_installed(entry: &StateRecord<'_, '_>, atom: &Atom<'_>) -> bool
+    ensures { IsTrue result ↔ (IsInstalled entry.now × Matches (pkg_of entry.now) atom.now) }
 {
-    match found.present_pkg() {
-        Some(there) if found.state().is_installed() => atom.matched_by(there),
+    match entry.present_pkg() {
+        Some(there) if entry.state().is_installed() => atom.matched_by(there),
         _ => false,
     }
 }
 
-fn some_matches_installed(mut found: Holders<'_, '_, '_>, atom: &Atom<'_>) -> bool
-    ensures { IsTrue result ↔ Any (λ found. IsInstalled found × Matches (pkg_of found) atom.now) found.entry }
+fn some_matches_installed(mut holders: Holders<'_, '_, '_>, atom: &Atom<'_>) -> bool
+    ensures { IsTrue result
+        ↔ Any (λ entry. IsInstalled entry × Matches (pkg_of entry) atom.now) holders.entry }
 {
-    found.any(|found| matches_installed(found, atom))
+    holders.any(|entry| matches_installed(entry, atom))
 }
 
 fn is_atom_met(db: &Records<'_, '_>, atom: &Atom<'_>) -> bool
-    ensures { IsTrue result ↔ Any (λ found. IsInstalled found × Matches (pkg_of found) atom.now) db.now }
+    ensures { IsTrue result
+        ↔ Any (λ entry. IsInstalled entry × Matches (pkg_of entry) atom.now) db.now }
 {
     some_matches_installed(db.holders(atom.name()), atom)
 }
 
 fn some_atom_is_met(db: &Records<'_, '_>, atoms: &[Atom<'_>]) -> bool
     ensures { IsTrue result
-        ↔ Any (λ atom. Any (λ found. IsInstalled found × Matches (pkg_of found) atom) db.now) atoms.now }
+        ↔ Any (λ atom.
+        Any (λ entry. IsInstalled entry × Matches (pkg_of entry) atom) db.now) atoms.now }
 {
     atoms.iter().any(|atom| is_atom_met(db, atom))
 }
@@ -59,16 +62,17 @@ pub fn are_met(db: &Records<'_, '_>, clauses: &[Clause<'_>]) -> bool
     clauses.iter().all(|clause| is_met(db, clause))
 }
 
-fn is_installed_name(found: &StateRecord<'_, '_>, name: &[u8]) -> bool
-    ensures { IsTrue result ↔ (IsInstalled found.now × (found.now.name ≡ name.now)) }
+fn is_installed_name(entry: &StateRecord<'_, '_>, name: &[u8]) -> bool
+    ensures { IsTrue result ↔ (IsInstalled entry.now × (entry.now.name ≡ name.now)) }
 {
-    found.state().is_installed() && is_same(found.name(), name)
+    entry.state().is_installed() && is_same(entry.name(), name)
 }
 
-fn some_is_installed(mut found: Holders<'_, '_, '_>, name: &[u8]) -> bool
-    ensures { IsTrue result ↔ Any (λ found. IsInstalled found × (found.name ≡ name.now)) found.entry }
+fn some_is_installed(mut holders: Holders<'_, '_, '_>, name: &[u8]) -> bool
+    ensures { IsTrue result
+        ↔ Any (λ entry. IsInstalled entry × (entry.name ≡ name.now)) holders.entry }
 {
-    found.any(|found| is_installed_name(found, name))
+    holders.any(|entry| is_installed_name(entry, name))
 }
 
 /// Whether a package of the name is installed. Linear in the records that have or provide the name.
@@ -84,19 +88,22 @@ fn is_of(pkg: &Pkg<'_>, name: &[u8], version: &Version<'_>) -> bool
     is_same(pkg.name(), name) && pkg.version() == version
 }
 
-fn is_installed_version(found: &StateRecord<'_, '_>, name: &[u8], version: &Version<'_>) -> bool
-    ensures { IsTrue result ↔ (IsInstalled found.now × IsOf name.now version.now (pkg_of found.now)) }
+fn is_installed_version(entry: &StateRecord<'_, '_>, name: &[u8], version: &Version<'_>) -> bool
+    ensures { IsTrue result
+        ↔ (IsInstalled entry.now × IsOf name.now version.now (pkg_of entry.now)) }
 {
-    match found.present_pkg() {
-        Some(there) if found.state().is_installed() => is_of(there, name, version),
+    match entry.present_pkg() {
+        Some(there) if entry.state().is_installed() => is_of(there, name, version),
         _ => false,
     }
 }
 
-fn some_is_version(mut found: Holders<'_, '_, '_>, name: &[u8], version: &Version<'_>) -> bool
-    ensures { IsTrue result ↔ Any (λ found. IsInstalled found × IsOf name.now version.now (pkg_of found)) found.entry }
+fn some_is_version(mut holders: Holders<'_, '_, '_>, name: &[u8], version: &Version<'_>) -> bool
+    ensures { IsTrue result
+        ↔ Any (λ entry. IsInstalled entry
+        × IsOf name.now version.now (pkg_of entry)) holders.entry }
 {
-    found.any(|found| is_installed_version(found, name, version))
+    holders.any(|entry| is_installed_version(entry, name, version))
 }
 
 /// Whether this version of the name is installed. Linear in the records that have or provide the name.

@@ -38,8 +38,8 @@ fn places_of<'a>(alloc: Global, records: &[StateRecord<'_, 'a>]) -> Result<Place
     ensures { IfOk result (λ places. AreListed (places_in places) records.now) }
 {
     let mut places = Places::new(alloc);
-    for (place, found) in records.iter().enumerate() {
-        places.enter(found.name(), found.provides(), place)?;
+    for (place, entry) in records.iter().enumerate() {
+        places.enter(entry.name(), entry.provides(), place)?;
     }
     Ok(places)
 }
@@ -49,14 +49,15 @@ fn is_named_at(records: &[StateRecord<'_, '_>], place: usize, name: &[u8]) -> bo
     ensures { result ≡ is_named_at name.now records.now place }
 {
     match records.get(place) {
-        Some(found) => is_named(name, found),
+        Some(entry) => is_named(name, entry),
         None => false,
     }
 }
 
 // The first of the places at which a record of the name stands.
 fn place_among(records: &[StateRecord<'_, '_>], places: &[usize], name: &[u8]) -> Option<usize>
-    ensures { MatchOption result (All (λ place. is_named_at name.now records.now place ≡ false) places.now)
+    ensures { MatchOption result
+        (All (λ place. is_named_at name.now records.now place ≡ false) places.now)
         (IsPlaceOf name.now records.now) }
 {
     for place in places {
@@ -95,7 +96,8 @@ impl<'p, 'a> Records<'p, 'a> {
 
     // The place of the record of the name, if there is one.
     fn place_of(&self, name: &[u8]) -> Option<usize>
-        ensures { MatchOption result (list_any (is_named name.now) self.now ≡ false) (IsPlaceOf name.now self.now) }
+        ensures { MatchOption result (list_any (is_named name.now) self.now ≡ false)
+            (IsPlaceOf name.now self.now) }
     {
         place_among(self.records.as_slice(), self.places.of(name), name)
     }
@@ -103,11 +105,12 @@ impl<'p, 'a> Records<'p, 'a> {
     /// Configures the package of the name. Linear in the records that have or provide the name.
     fn configure_one(&mut self, name: &[u8])
         requires distinct { HasDistinctNames self.old }
-        requires present { All (λ found. is_named name.now found ≡ true → IsPresent found) self.old }
+        requires present { All
+            (λ entry. is_named name.now entry ≡ true → IsPresent entry) self.old }
         ensures { self.new ≡ changed (is_named name.now) configured self.old }
     {
         match self.place_of(name) {
-            Some(place) => self.records[place] = self.records[place].configured(),
+            Some(place) => self.records[place] = self.records[place].after_configure(),
             None => {}
         }
     }
@@ -115,7 +118,8 @@ impl<'p, 'a> Records<'p, 'a> {
     /// Configures the packages of these names. For each linear in the records that have or provide it.
     pub fn configure(&mut self, names: &[Name])
         requires distinct { HasDistinctNames self.old }
-        requires present { All (λ found. is_among names.now found ≡ true → IsPresent found) self.old }
+        requires present { All
+            (λ entry. is_among names.now entry ≡ true → IsPresent entry) self.old }
         ensures { self.new ≡ changed (is_among names.now) configured self.old }
     {
         for name in names {
@@ -126,11 +130,12 @@ impl<'p, 'a> Records<'p, 'a> {
     /// Deconfigures the package of the name. Linear in the records that have or provide the name.
     pub fn deconfigure(&mut self, name: &[u8])
         requires distinct { HasDistinctNames self.old }
-        requires present { All (λ found. is_named name.now found ≡ true → IsPresent found) self.old }
+        requires present { All
+            (λ entry. is_named name.now entry ≡ true → IsPresent entry) self.old }
         ensures { self.new ≡ changed (is_named name.now) deconfigured self.old }
     {
         match self.place_of(name) {
-            Some(place) => self.records[place] = self.records[place].deconfigured(),
+            Some(place) => self.records[place] = self.records[place].after_deconfigure(),
             None => {}
         }
     }
@@ -139,11 +144,12 @@ impl<'p, 'a> Records<'p, 'a> {
     /// that have or provide the name.
     pub fn remove(&mut self, name: &[u8])
         requires distinct { HasDistinctNames self.old }
-        requires present { All (λ found. is_named name.now found ≡ true → IsPresent found) self.old }
+        requires present { All
+            (λ entry. is_named name.now entry ≡ true → IsPresent entry) self.old }
         ensures { self.new ≡ changed (is_named name.now) removed self.old }
     {
         match self.place_of(name) {
-            Some(place) => self.records[place] = self.records[place].removed(),
+            Some(place) => self.records[place] = self.records[place].after_remove(),
             None => {}
         }
     }
@@ -152,7 +158,9 @@ impl<'p, 'a> Records<'p, 'a> {
     fn unpack_at(&mut self, place: usize, listed: &'p IndexPackage<'a>) -> Result<(), AllocError>
         requires place { IsPlaceOf listed.now.pkg.name self.old place }
         requires distinct { HasDistinctNames self.old }
-        ensures ok { OnOk result (self.new ≡ changed (is_named listed.now.pkg.name) (unpacked_over listed.now) self.old) }
+        ensures ok { OnOk result
+            (self.new ≡ changed (is_named listed.now.pkg.name)
+            (unpacked_over listed.now) self.old) }
         ensures err { OnErr result (self.new ≡ self.old) }
     {
         let pkg = listed.pkg();
@@ -169,7 +177,7 @@ impl<'p, 'a> Records<'p, 'a> {
         let pkg = listed.pkg();
         self.places
             .enter(pkg.name(), pkg.provides(), self.records.len())?;
-        self.records.push(StateRecord::unpacked(listed, None))?;
+        self.records.push(StateRecord::unpacked_with(listed, None))?;
         Ok(())
     }
 
@@ -191,7 +199,7 @@ impl<'p, 'a> Records<'p, 'a> {
     /// Purges the name: its record is gone. Linear in the records and in what they provide or provided.
     pub fn purge(&mut self, name: &[u8])
         requires { HasDistinctNames self.old }
-        ensures { self.new ≡ filter (λ found. not (is_named name.now found)) self.old }
+        ensures { self.new ≡ filter (λ entry. not (is_named name.now entry)) self.old }
     {
         match self.place_of(name) {
             Some(place) => {

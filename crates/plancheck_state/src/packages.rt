@@ -8,7 +8,7 @@ use std::alloc::{AllocError, Global};
 
 // The package of the record, if it is present.
 fn present_pkg<'a>(alloc: Global, record: &StatusRecord<'a>) -> Result<Option<Pkg<'a>>, AllocError>
-    ensures { IfOk result (λ pkg. pkg ≡ present_pkg «record».now.found) }
+    ensures { IfOk result (λ pkg. pkg ≡ present_pkg «record».now.status) }
 {
     if !record.is_present() {
         return Ok(None);
@@ -25,7 +25,8 @@ pub fn parse_packages<'a>(
     alloc: Global,
     records: &[&StatusRecord<'a>],
 ) -> Result<Vec<Option<Pkg<'a>>>, AllocError>
-    ensures { IfOk result (λ packages. packages.items ≡ packages_of (map (λ found. found.now) records.now)) }
+    ensures { IfOk result
+        (λ packages. packages.items ≡ packages_of (map (λ entry. entry.now) records.now)) }
 {
     let mut packages = Vec::new(alloc);
     for record in records {

@@ -89,7 +89,9 @@ impl<'a> Places<'a> {
     // Enters the place for the name of the item, unless it is foreign.
     fn add_item(&mut self, item: &Provided<'a>, place: usize) -> Result<(), AllocError>
         ensures kept { KeepsPlaces (places_in self.old) (places_in self.new) }
-        ensures added { OnOk result ((name : List ℕ) → is_item_of name item.now ≡ true → Contains (places_in self.new name) place) }
+        ensures added { OnOk result
+            ((name : List ℕ) → is_item_of name item.now ≡ true
+            → Contains (places_in self.new name) place) }
     {
         if item.is_foreign() {
             Ok(())
@@ -118,7 +120,8 @@ impl<'a> Places<'a> {
 
     /// Takes out the place that is gone, and moves those behind it down by one. Linear in the places.
     pub fn close_gap(&mut self, gone: usize)
-        ensures { (name : List ℕ) → places_in self.new name ≡ places_left gone (places_in self.old name) }
+        ensures { (name : List ℕ) → places_in self.new name
+            ≡ places_left gone (places_in self.old name) }
     {
         close_gaps(self.lists.as_mut_slice(), gone);
     }

@@ -22,8 +22,8 @@ fn version_again<'a>(version: &Option<Version<'a>>) -> Option<Version<'a>>
 
 // The record of a package, which is present.
 fn with_package<'p, 'a>(record: &StatusRecord<'a>, pkg: &'p Pkg<'a>) -> StateRecord<'p, 'a>
-    requires { present_pkg «record».now.found ≡ Some pkg.now }
-    ensures { result ≡ «record».now.found }
+    requires { present_pkg «record».now.status ≡ Some pkg.now }
+    ensures { result ≡ «record».now.status }
 {
     StateRecord::present(
         pkg,
@@ -37,8 +37,8 @@ fn with_package<'p, 'a>(record: &StatusRecord<'a>, pkg: &'p Pkg<'a>) -> StateRec
 
 // The record of a package that isn't present.
 fn without_package<'p, 'a>(record: &StatusRecord<'a>) -> StateRecord<'p, 'a>
-    requires { present_pkg «record».now.found ≡ None }
-    ensures { result ≡ «record».now.found }
+    requires { present_pkg «record».now.status ≡ None }
+    ensures { result ≡ «record».now.status }
 {
     let _is_present = record.is_present();
     StateRecord::absent(
@@ -57,8 +57,8 @@ fn package_record<'p, 'a>(
     record: &StatusRecord<'a>,
     pkg: &'p Option<Pkg<'a>>,
 ) -> StateRecord<'p, 'a>
-    requires { pkg.now ≡ present_pkg «record».now.found }
-    ensures { result ≡ «record».now.found }
+    requires { pkg.now ≡ present_pkg «record».now.status }
+    ensures { result ≡ «record».now.status }
 {
     if let Some(pkg) = pkg {
         return with_package(record, pkg);
@@ -72,8 +72,8 @@ fn package_records<'p, 'a>(
     records: &[&StatusRecord<'a>],
     packages: &'p [Option<Pkg<'a>>],
 ) -> Result<Vec<StateRecord<'p, 'a>>, AllocError>
-    requires { packages.now ≡ packages_of (map (λ found. found.now) records.now) }
-    ensures { IfOk result (λ view. view.items ≡ records_of (map (λ found. found.now) records.now)) }
+    requires { packages.now ≡ packages_of (map (λ entry. entry.now) records.now) }
+    ensures { IfOk result (λ view. view.items ≡ records_of (map (λ entry. entry.now) records.now)) }
 {
     let mut view = Vec::new(alloc);
     let mut place = 0;
@@ -91,8 +91,8 @@ pub fn view<'p, 'a>(
     records: &[&StatusRecord<'a>],
     packages: &'p [Option<Pkg<'a>>],
 ) -> Result<Records<'p, 'a>, AllocError>
-    requires { packages.now ≡ packages_of (map (λ found. found.now) records.now) }
-    ensures { IfOk result (λ view. view ≡ records_of (map (λ found. found.now) records.now)) }
+    requires { packages.now ≡ packages_of (map (λ entry. entry.now) records.now) }
+    ensures { IfOk result (λ view. view ≡ records_of (map (λ entry. entry.now) records.now)) }
 {
     Records::new(alloc, package_records(alloc, records, packages)?)
 }

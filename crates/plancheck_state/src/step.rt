@@ -11,10 +11,11 @@ use rules::{State, Want};
 
 impl<'p, 'a> StateRecord<'p, 'a> {
     // The record in this state, with its version as the one configured last.
-    fn settled(&self, state: State) -> StateRecord<'p, 'a>
+    fn with_state(&self, state: State) -> StateRecord<'p, 'a>
         requires present { IsPresent self.now }
         requires settled { is_present_state state ≡ true }
-        ensures { result ≡ record self.now { state = state; config_version = Some self.now.version } }
+        ensures { result
+            ≡ record self.now { state = state; config_version = Some self.now.version } }
     {
         match self.present_pkg() {
             Some(pkg) => StateRecord::present(
@@ -30,19 +31,19 @@ impl<'p, 'a> StateRecord<'p, 'a> {
     }
 
     /// The record once its package is configured.
-    pub(crate) fn configured(&self) -> StateRecord<'p, 'a>
+    pub(crate) fn after_configure(&self) -> StateRecord<'p, 'a>
         requires { IsPresent self.now }
         ensures { result ≡ configured self.now }
     {
-        self.settled(State::Installed)
+        self.with_state(State::Installed)
     }
 
     /// The record once its package is deconfigured.
-    pub(crate) fn deconfigured(&self) -> StateRecord<'p, 'a>
+    pub(crate) fn after_deconfigure(&self) -> StateRecord<'p, 'a>
         requires { IsPresent self.now }
         ensures { result ≡ deconfigured self.now }
     {
-        self.settled(State::HalfConfigured)
+        self.with_state(State::HalfConfigured)
     }
 
     /// The version that was configured last: of an installed package, and of one in a trigger state, its version.
@@ -69,7 +70,7 @@ impl<'p, 'a> StateRecord<'p, 'a> {
     }
 
     /// The record once its package is removed.
-    pub(crate) fn removed(&self) -> StateRecord<'p, 'a>
+    pub(crate) fn after_remove(&self) -> StateRecord<'p, 'a>
         requires { IsPresent self.now }
         ensures { result ≡ removed self.now }
     {
@@ -89,8 +90,8 @@ impl<'p, 'a> StateRecord<'p, 'a> {
 }
 
 /// Whether the record is of the name.
-pub(crate) fn is_named(name: &[u8], found: &StateRecord<'_, '_>) -> bool
-    ensures { result ≡ is_named name.now found.now }
+pub(crate) fn is_named(name: &[u8], entry: &StateRecord<'_, '_>) -> bool
+    ensures { result ≡ is_named name.now entry.now }
 {
-    found.name() == name
+    entry.name() == name
 }

@@ -10,7 +10,7 @@ use rules::{Flag, State, Want};
 
 impl<'p, 'a> StateRecord<'p, 'a> {
     /// The record of a package of an index once it is unpacked, with this config version.
-    pub(crate) fn unpacked(
+    pub(crate) fn unpacked_with(
         listed: &'p IndexPackage<'a>,
         config_version: Option<Version<'a>>,
     ) -> StateRecord<'p, 'a>
@@ -30,6 +30,6 @@ impl<'p, 'a> StateRecord<'p, 'a> {
     pub(crate) fn unpacked_over(&self, listed: &'p IndexPackage<'a>) -> StateRecord<'p, 'a>
         ensures { result ≡ unpacked_over listed.now self.now }
     {
-        StateRecord::unpacked(listed, self.kept_config_version())
+        StateRecord::unpacked_with(listed, self.kept_config_version())
     }
 }

@@ -86,7 +86,7 @@ spelled_free byte version outside is =
     (epoch_free byte is.epoch (before_hyphen is.upstream is.revision) outside is.epoch_is
     (hyphen_free byte is.upstream is.revision outside is.upstream_is is.revision_is))
 
-none_from : {A : Type 0} (found : Option A) → is_none found ≡ true → found ≡ None
+none_from : {A : Type 0} (value : Option A) → is_none value ≡ true → value ≡ None
 none_from None h = refl
 none_from (Some x) h = cc
 

@@ -16,7 +16,7 @@ use Rattle.plantext.proofs.PartLemmas.{parts_some}
 -- a step that is put before others stands behind those so far
 pub put_steps_more : (steps : List Step) (step : Step) (later : Result (List Step) PlanFault)
     → put_steps (steps ++ step ∷ []) later ≡ put_steps steps (put_step (Ok step) later)
-put_steps_more steps step (Ok later) = ap (λ found. Ok found) (append_assoc steps (step ∷ []) later)
+put_steps_more steps step (Ok later) = ap (λ list. Ok list) (append_assoc steps (step ∷ []) later)
 put_steps_more steps step (Err fault) = refl
 
 -- the refusal of a line is the refusal of all

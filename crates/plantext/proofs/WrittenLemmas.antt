@@ -44,7 +44,7 @@ named_is : (to_step : List ℕ → Step) (action : List ℕ) (words : List (List
     → ((name : List ℕ) → words_of (to_step name) ≡ action ∷ name ∷ [])
     → option_map to_step (only_name words) ≡ Some step → action ∷ words ≡ words_of step
 named_is to_step action words step spelled h = go (only_name words) refl h where
-  go : (found : Option (List ℕ)) → only_name words ≡ found → option_map to_step found ≡ Some step → action ∷ words ≡ words_of step
+  go : (answer : Option (List ℕ)) → only_name words ≡ answer → option_map to_step answer ≡ Some step → action ∷ words ≡ words_of step
   go None e g = cc
   go (Some name) e g =
       let same : to_step name ≡ step = cc in
@@ -53,8 +53,8 @@ named_is to_step action words step spelled h = go (only_name words) refl h where
 unpack_is : (words : List (List ℕ)) (step : Step) → unpack_of words ≡ Some step → codes "unpack" ∷ words ≡ words_of step
 unpack_is [] step h = cc
 unpack_is (word ∷ later) step h = go (name_in word) refl (only_version later) refl h where
-  go : (found : Option (List ℕ)) → name_in word ≡ found → (kept : Option (List ℕ)) → only_version later ≡ kept
-      → option_and_then (λ name. option_map (λ version. Unpack name version) kept) found ≡ Some step → codes "unpack" ∷ word ∷ later ≡ words_of step
+  go : (answer : Option (List ℕ)) → name_in word ≡ answer → (kept : Option (List ℕ)) → only_version later ≡ kept
+      → option_and_then (λ name. option_map (λ version. Unpack name version) kept) answer ≡ Some step → codes "unpack" ∷ word ∷ later ≡ words_of step
   go None e kept k g = cc
   go (Some name) e None k g = cc
   go (Some name) e (Some version) k g =
@@ -102,7 +102,7 @@ unfolding step_of step_line
 line_is line step h = ap (λ (text : List ℕ). text ++ 10 ∷ [])
     (sym (join_with_byte-slice_split 32 line) ∙ ap (join_with_byte 32) (words_are (parts_at 32 line) step h))
 
-numbered_is : (number : ℕ) (found : Option Step) (step : Step) → numbered_step number found ≡ Ok step → found ≡ Some step
+numbered_is : (number : ℕ) (answer : Option Step) (step : Step) → numbered_step number answer ≡ Ok step → answer ≡ Some step
 numbered_is number None step h = cc
 numbered_is number (Some other) step h = elim (cases_Bool (ltb STEPS number)) [ inl e ↦ cc (rw e at h) | inr e ↦ cc (rw e at h) ]
 
@@ -225,8 +225,8 @@ only_line_is (first ∷ [] ∷ []) line h = let same : first ≡ line = cc in rw
 only_line_is (first ∷ (b ∷ bytes) ∷ []) line h = cc
 only_line_is (first ∷ next ∷ last ∷ later) line h = cc
 
-only_step_is : (text : List ℕ) (found : Option (List ℕ)) (step : Step) → only_line (parts_at 10 text) ≡ found
-    → ok_or (option_and_then step_of found) (BadPlan 1) ≡ Ok step → text ≡ step_line step
+only_step_is : (text : List ℕ) (answer : Option (List ℕ)) (step : Step) → only_line (parts_at 10 text) ≡ answer
+    → ok_or (option_and_then step_of answer) (BadPlan 1) ≡ Ok step → text ≡ step_line step
 only_step_is text None step e h = cc
 only_step_is text (Some line) step e h = go (step_of line) refl h where
   go : (read : Option Step) → step_of line ≡ read → ok_or read (BadPlan 1) ≡ Ok step → text ≡ step_line step

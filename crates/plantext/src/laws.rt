@@ -8,7 +8,8 @@ ghost use Rattle.plantext.specs.StepLine.{step_line};
 /// A text that is read as a plan is the version 1 text or the version 2 text of the steps that it is read as: no two texts
 /// of one version are read as the same plan.
 pub fn a_plan_is_the_text_of_its_steps()
-    ensures { (text : List ℕ) (steps : List Step) → read_plan text ≡ Ok steps → IsPlanText steps text }
+    ensures { (text : List ℕ) (steps : List Step) → read_plan text ≡ Ok steps
+        → IsPlanText steps text }
 {}
 
 /// A text that is read as a step is the step's line: no two texts are read as the same step.

@@ -94,7 +94,8 @@ fn read_steps(alloc: Global, lines: &[u8]) -> Result<Vec<Step>, PlanError>
 
 // The steps of the lines behind the header of version 2: those before the line that ends a plan of so many.
 fn read_steps_2(alloc: Global, lines: &[u8]) -> Result<Vec<Step>, PlanError>
-    ensures ok { IfOk result (λ steps. read_steps_2 0 (parts_at NEWLINE lines.now) ≡ Ok steps.items) }
+    ensures ok { IfOk result
+        (λ steps. read_steps_2 0 (parts_at NEWLINE lines.now) ≡ Ok steps.items) }
     ensures err { IfErr result (λ e. IsPlanFault e (read_steps_2 0 (parts_at NEWLINE lines.now))) }
 {
     let mut steps = Vec::new(alloc);

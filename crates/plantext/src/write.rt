@@ -24,7 +24,8 @@ fn push_word(text: &mut Vec<u8>, word: &[u8]) -> Result<(), AllocError>
 
 // Writes each of the names behind the text, a space before it.
 fn push_names(text: &mut Vec<u8>, names: &[Name]) -> Result<(), AllocError>
-    ensures written { OnOk result (text.new.items ≡ text.old.items ++ flat_map (λ name. SPACE ∷ name) names.now) }
+    ensures written { OnOk result
+        (text.new.items ≡ text.old.items ++ flat_map (λ name. SPACE ∷ name) names.now) }
     ensures valid { OnOk result (list_all is_name names.now ≡ true) }
 {
     for name in names {
@@ -35,7 +36,8 @@ fn push_names(text: &mut Vec<u8>, names: &[Name]) -> Result<(), AllocError>
 
 // Writes an action and the name that it is about behind the text.
 fn push_named(text: &mut Vec<u8>, action: &[u8], name: &Name) -> Result<(), AllocError>
-    ensures written { OnOk result (text.new.items ≡ text.old.items ++ join_with_byte SPACE (action.now ∷ name.now ∷ [])) }
+    ensures written { OnOk result
+        (text.new.items ≡ text.old.items ++ join_with_byte SPACE (action.now ∷ name.now ∷ [])) }
     ensures valid { OnOk result (is_name name.now ≡ true) }
 {
     text.extend_from_slice(action)?;
@@ -45,7 +47,8 @@ fn push_named(text: &mut Vec<u8>, action: &[u8], name: &Name) -> Result<(), Allo
 // Writes the configuring of a group behind the text.
 #[tactic(auto, using(crate::proofs::GroupLemmas::ascending_group))]
 fn push_group(text: &mut Vec<u8>, group: &Names) -> Result<(), AllocError>
-    ensures written { OnOk result (text.new.items ≡ text.old.items ++ join_with_byte SPACE (words_of (Configure group.now))) }
+    ensures written { OnOk result
+        (text.new.items ≡ text.old.items ++ join_with_byte SPACE (words_of (Configure group.now))) }
     ensures valid { OnOk result (is_group group.now ≡ true) }
 {
     text.extend_from_slice(b"configure")?;
@@ -55,7 +58,8 @@ fn push_group(text: &mut Vec<u8>, group: &Names) -> Result<(), AllocError>
 
 // Writes the words of a step behind the text.
 fn push_words(text: &mut Vec<u8>, step: &Step) -> Result<(), AllocError>
-    ensures written { OnOk result (text.new.items ≡ text.old.items ++ join_with_byte SPACE (words_of step.now)) }
+    ensures written { OnOk result
+        (text.new.items ≡ text.old.items ++ join_with_byte SPACE (words_of step.now)) }
     ensures valid { OnOk result (is_spelled step.now ≡ true) }
 {
     match step {
@@ -94,7 +98,8 @@ pub fn write_step(alloc: Global, step: &Step) -> Result<Vec<u8>, AllocError>
 
 // Writes the lines of the steps behind the text.
 fn push_steps(text: &mut Vec<u8>, steps: &[Step]) -> Result<(), AllocError>
-    ensures written { OnOk result (text.new.items ≡ text.old.items ++ flat_map step_line steps.now) }
+    ensures written { OnOk result
+        (text.new.items ≡ text.old.items ++ flat_map step_line steps.now) }
     ensures valid { OnOk result (list_all is_spelled steps.now ≡ true) }
 {
     for step in steps {

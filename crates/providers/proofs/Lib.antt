@@ -4,6 +4,6 @@ pub mod PrefixLemmas
 pub mod OfferLemmas
 pub mod OrderLemmas
 pub mod RunLemmas
-pub mod DraftLemmas
+pub mod UnsortedLemmas
 pub mod SpanLemmas
 pub mod FoundLemmas

@@ -100,16 +100,16 @@ item_of place (item ∷ items) offer within = elim (cases_Bool item.foreign) [
         → Any (λ item. (item.foreign ≡ false) × (provided_offer place item ≡ offer)) (item ∷ items)
     behind some = Any-elim (λ item. (item.foreign ≡ false) × (provided_offer place item ≡ offer)) items
         (Any (λ item. (item.foreign ≡ false) × (provided_offer place item ≡ offer)) (item ∷ items))
-        (λ found there holds. Any-intro (λ item. (item.foreign ≡ false) × (provided_offer place item ≡ offer)) (item ∷ items) found
-        (Contains-rest item items found there) holds) some
+        (λ other there holds. Any-intro (λ item. (item.foreign ≡ false) × (provided_offer place item ≡ offer)) (item ∷ items) other
+        (Contains-rest item items other there) holds) some
 
 of_item : (place : ℕ) (items : List Provided) (item : Provided) → Contains items item → item.foreign ≡ false
     → Contains (flat_map (offers_by place) items) (provided_offer place item)
 of_item place [] item within own = absurd (Contains-nil item within)
 of_item place (first ∷ items) item within own = elim (Contains-cons first items item within) [
   | inl same ↦
-      let here : first.foreign ≡ false = ap (λ (found : Provided). found.foreign) same ∙ own in
-      subst (λ (found : Provided). Contains (flat_map (offers_by place) (first ∷ items)) (provided_offer place found)) same
+      let here : first.foreign ≡ false = ap (λ (item : Provided). item.foreign) same ∙ own in
+      subst (λ (item : Provided). Contains (flat_map (offers_by place) (first ∷ items)) (provided_offer place item)) same
       (rw here (Contains-head (provided_offer place first) (flat_map (offers_by place) items)))
   | inr rest ↦ Contains-append_right (offers_by place first) (flat_map (offers_by place) items) (provided_offer place item)
       (of_item place items item rest own)
@@ -129,20 +129,20 @@ pkg_to atom place pkg offer within passes =
     let named : offer.name ≡ atom.name = bytes_eq-true offer.name atom.name parts.0 in
     elim (Contains-cons (own_offer place pkg.name pkg.version) (flat_map (offers_by place) pkg.relations.provides) offer within) [
       | inl same ↦ (
-        sym (ap (λ (found : Offer). found.place) same),
+        sym (ap (λ (offer : Offer). offer.place) same),
         inl (
-          ap (λ (found : Offer). found.name) same ∙ named,
-          own_met pkg.version atom.restriction (ap (λ (found : Offer). is_meeting atom.restriction found.version) same ∙ parts.1),
+          ap (λ (offer : Offer). offer.name) same ∙ named,
+          own_met pkg.version atom.restriction (ap (λ (offer : Offer). is_meeting atom.restriction offer.version) same ∙ parts.1),
         ),
       )
       | inr rest ↦ Any-elim (λ item. (item.foreign ≡ false) × (provided_offer place item ≡ offer)) pkg.relations.provides
           ((offer.place ≡ place) × FitsSome pkg atom)
           (λ item there holds. (
-            sym (ap (λ (found : Offer). found.place) holds.1),
+            sym (ap (λ (offer : Offer). offer.place) holds.1),
             inr (Any-intro (λ item. FitsProvided item atom) pkg.relations.provides item there (
               holds.0,
-              ap (λ (found : Offer). found.name) holds.1 ∙ named,
-              met item.version atom.restriction (ap (λ (found : Offer). is_meeting atom.restriction found.version) holds.1 ∙ parts.1),
+              ap (λ (offer : Offer). offer.name) holds.1 ∙ named,
+              met item.version atom.restriction (ap (λ (offer : Offer). is_meeting atom.restriction offer.version) holds.1 ∙ parts.1),
             )),
           )) (item_of place pkg.relations.provides offer rest)
     ]
@@ -178,19 +178,19 @@ list_to : (atom : Atom) (first : ℕ) (packages : List Pkg) (offer : Offer) → 
     → (behind : ℕ) × (offer.place ≡ first + behind) × IsFitAt packages atom behind
 list_to atom first [] offer within passes = absurd (Contains-nil offer within)
 list_to atom first (pkg ∷ later) offer within passes = elim (Contains-append_cases (offers_at first pkg) (each_from offers_at (first + 1) later) offer within) [
-  | inl here ↦ let found = pkg_to atom first pkg offer here passes in (0, omega (arith, found.0), (pkg, refl, found.1))
-  | inr rest ↦ let found = list_to atom (first + 1) later offer rest passes in (suc found.0, omega (arith, found.1), found.2)
+  | inl here ↦ let witness = pkg_to atom first pkg offer here passes in (0, omega (arith, witness.0), (pkg, refl, witness.1))
+  | inr rest ↦ let witness = list_to atom (first + 1) later offer rest passes in (suc witness.0, omega (arith, witness.1), witness.2)
 ]
 
 list_from : (atom : Atom) (first : ℕ) (packages : List Pkg) (behind : ℕ) → IsFitAt packages atom behind
     → IsOffered atom (each_from offers_at first packages) (first + behind)
-list_from atom first [] behind found = absurd (let e : None ≡ Some found.0 = found.1 in cc)
-list_from atom first (pkg ∷ later) zero (found, is, fit) =
-    let same : pkg ≡ found = cc in
+list_from atom first [] behind witness = absurd (let e : None ≡ Some witness.0 = witness.1 in cc)
+list_from atom first (pkg ∷ later) zero (witness, is, fit) =
+    let same : pkg ≡ witness = cc in
     let here = pkg_from atom first pkg (subst (λ (p : Pkg). FitsSome p atom) (sym same) fit) in
     (here.0, Contains-append_left (offers_at first pkg) (each_from offers_at (first + 1) later) here.0 here.1, here.2, omega (arith, here.3))
-list_from atom first (pkg ∷ later) (suc behind) found =
-    let there = list_from atom (first + 1) later behind found in
+list_from atom first (pkg ∷ later) (suc behind) witness =
+    let there = list_from atom (first + 1) later behind witness in
     (there.0, Contains-append_right (offers_at first pkg) (each_from offers_at (first + 1) later) there.0 there.1, there.2, omega (arith, there.3))
 
 -- Matches
@@ -198,9 +198,9 @@ list_from atom first (pkg ∷ later) (suc behind) found =
 match_to : (atom : Atom) (packages : List Pkg) (place : ℕ) → atom.foreign ≡ false → IsOffered atom (offers_of packages) place → IsMatchAt packages atom place
 unfolding Matches
 match_to atom packages place own (offer, within, passes, here) =
-    let found = list_to atom 0 packages offer within passes in
-    let same : found.0 ≡ place = omega (arith, found.1, here) in
-    subst (IsMatchAt packages atom) same (found.2.0, found.2.1, (own, found.2.2))
+    let witness = list_to atom 0 packages offer within passes in
+    let same : witness.0 ≡ place = omega (arith, witness.1, here) in
+    subst (IsMatchAt packages atom) same (witness.2.0, witness.2.1, (own, witness.2.2))
 
 match_from : (atom : Atom) (packages : List Pkg) (place : ℕ) → IsMatchAt packages atom place
     → (atom.foreign ≡ false) × IsOffered atom (offers_of packages) place
@@ -215,9 +215,9 @@ places_fitting atom offers = map (λ offer. offer.place) (filter (fits atom) off
 
 places_to : (atom : Atom) (offers : List Offer) (place : ℕ) → Contains (places_fitting atom offers) place → IsOffered atom offers place
 places_to atom offers place within =
-    let found = Contains-map (λ (offer : Offer). offer.place) (filter (fits atom) offers) place within in
-    let kept = Contains-filter (fits atom) offers found.0 found.1 in
-    (found.0, kept.0, kept.1, found.2)
+    let witness = Contains-map (λ (offer : Offer). offer.place) (filter (fits atom) offers) place within in
+    let kept = Contains-filter (fits atom) offers witness.0 witness.1 in
+    (witness.0, kept.0, kept.1, witness.2)
 
 places_from : (atom : Atom) (offers : List Offer) (place : ℕ) → IsOffered atom offers place → Contains (places_fitting atom offers) place
 places_from atom offers place (offer, within, passes, here) =
@@ -233,11 +233,11 @@ pub places_match : (atom : Atom) (packages : List Pkg) (offers : List Offer) →
     → Contains (places_fitting atom offers) place ↔ IsMatchAt packages atom place
 places_match atom packages offers same own place = (
   λ within.
-      let found = places_to atom offers place within in
-      match_to atom packages place own (found.0, (same found.0).0 found.1, found.2, found.3),
+      let witness = places_to atom offers place within in
+      match_to atom packages place own (witness.0, (same witness.0).0 witness.1, witness.2, witness.3),
   λ matches.
-      let found = (match_from atom packages place matches).1 in
-      places_from atom offers place (found.0, (same found.0).1 found.1, found.2, found.3),
+      let witness = (match_from atom packages place matches).1 in
+      places_from atom offers place (witness.0, (same witness.0).1 witness.1, witness.2, witness.3),
 )
 
 -- no package matches a foreign atom

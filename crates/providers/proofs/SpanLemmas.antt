@@ -31,12 +31,12 @@ IsEntered old new key span = (name : List ℕ) → span_in new name ≡ cond (by
 
 module _ (offers : List Offer) (old new : Table) (key : Bor (List ℕ)) (span : ℕ × ℕ) (entered : IsEntered old new key span) where
   pub right_entered : AreSpans offers old → IsSpan key.now offers span.0 span.1 → AreSpans offers new
-  right_entered right is name start end found = elim (cases_Bool (bytes_eq key.now name)) [
+  right_entered right is name start end is_span = elim (cases_Bool (bytes_eq key.now name)) [
     | inl same ↦
-        let here : Some span ≡ Some (start, end) = sym (rw same at (entered name)) ∙ found in
+        let here : Some span ≡ Some (start, end) = sym (rw same at (entered name)) ∙ is_span in
         let at : span ≡ (start, end) = cc in
         subst (λ (s : ℕ × ℕ). IsSpan name offers s.0 s.1) at (subst (λ (n : List ℕ). IsSpan n offers span.0 span.1) (bytes_eq-true key.now name same) is)
-    | inr other ↦ right name start end (sym (rw other at (entered name)) ∙ found)
+    | inr other ↦ right name start end (sym (rw other at (entered name)) ∙ is_span)
   ]
 
   pub kept_entered : KeepsNames old new
@@ -63,8 +63,8 @@ module _ (offers : List Offer) (start : ℕ) (first : Offer) (old new : Table) (
   apart_before : (offer : Offer) → Contains (take start offers) offer → is_offer_of key.now offer ≡ false
   apart_before offer within = elim (cases_Bool (is_offer_of key.now offer)) [
     | inl same ↦
-        let there : is_some (span_in old offer.name) ≡ true = All-contains (λ found. is_some (span_in old found.name) ≡ true) (take start offers) offer before.whole within in
-        let none : span_in old first.name ≡ None = All-contains (λ found. span_in old found.name ≡ None) left first before.later first_within in
+        let there : is_some (span_in old offer.name) ≡ true = All-contains (λ offer. is_some (span_in old offer.name) ≡ true) (take start offers) offer before.whole within in
+        let none : span_in old first.name ≡ None = All-contains (λ offer. span_in old offer.name ≡ None) left first before.later first_within in
         let alike : offer.name ≡ first.name = bytes_eq-true offer.name key.now same ∙ named in
         absurd (true≢false (sym there ∙ ap (λ (n : List ℕ). is_some (span_in old n)) alike ∙ ap is_some none))
     | inr other ↦ other
@@ -107,7 +107,7 @@ module _ (offers : List Offer) (start : ℕ) (first : Offer) (old new : Table) (
     later = subst (λ (xs : List Offer). HasNoNames xs new) (drop-drop run start offers)
         (All-intro (λ offer. span_in new offer.name ≡ None) (drop run left) (λ offer within.
         entered offer.name ∙ ap (λ (b : Bool). cond b (Some (start, start + run)) (span_in old offer.name)) (other offer within)
-        ∙ All-contains (λ found. span_in old found.name ≡ None) left offer before.later (within_drop run left offer within)));
+        ∙ All-contains (λ offer. span_in old offer.name ≡ None) left offer before.later (within_drop run left offer within)));
   }
     where
       other : (offer : Offer) → Contains (drop run left) offer → bytes_eq key.now offer.name ≡ false
@@ -134,7 +134,7 @@ table_done offers place table all before = record {
 pub table_begun : (offers : List Offer) → IsTableUpTo offers 0 []
 table_begun offers = record {
   within = omega arith;
-  right = λ name start end found. absurd (let e : None ≡ Some (start, end) = found in cc);
+  right = λ name start end is_span. absurd (let e : None ≡ Some (start, end) = is_span in cc);
   whole = λ k d low. absurd (omega arith);
   later = All-intro (λ offer. span_in [] offer.name ≡ None) offers (λ offer within. refl);
 }
@@ -147,6 +147,6 @@ none_within (x ∷ xs) none = absurd (none x (Contains-head x xs))
 pub none_found : (name : List ℕ) (offers : List Offer) (table : Table) → HasNames offers table → span_in table name ≡ None → [] ≡ filter (is_offer_of name) offers
 none_found name offers table names none = sym (none_within (filter (is_offer_of name) offers) (λ offer within.
     let kept = Contains-filter (is_offer_of name) offers offer within in
-    let there : is_some (span_in table offer.name) ≡ true = All-contains (λ found. is_some (span_in table found.name) ≡ true) offers offer names kept.0 in
+    let there : is_some (span_in table offer.name) ≡ true = All-contains (λ offer. is_some (span_in table offer.name) ≡ true) offers offer names kept.0 in
     let same : offer.name ≡ name = bytes_eq-true offer.name name kept.1 in
     true≢false (sym there ∙ ap (λ (n : List ℕ). is_some (span_in table n)) same ∙ ap is_some none)))

@@ -3,7 +3,6 @@
 //! `Providers`, with the calls `of` and `matching`.
 #![tactic(auto)]
 
-mod draft;
 mod offer;
 mod places;
 mod prefix;
@@ -13,6 +12,7 @@ mod run;
 mod seen;
 mod spans;
 mod ticks;
+mod unsorted;
 
 pub use providers::Providers;
 pub use ticks::Ticks;

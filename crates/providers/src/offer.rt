@@ -50,7 +50,8 @@ fn text_of<'a>(version: Option<&Version<'a>>) -> &'a [u8]
 
 // The order of two versions, each of which may be missing.
 fn version_cmp(version: Option<&Version<'_>>, other: Option<&Version<'_>>) -> Ordering
-    ensures { result ≡ option_cmp version_cmp (option_copied version.entry) (option_copied other.entry) }
+    ensures { result
+        ≡ option_cmp version_cmp (option_copied version.entry) (option_copied other.entry) }
 {
     match (version, other) {
         (None, None) => Ordering::Equal,
@@ -74,7 +75,7 @@ impl<'a> Offer<'a> {
     }
 
     /// What the item of the package at the place offers.
-    pub(crate) fn provided(item: &Provided<'a>, place: usize) -> Offer<'a>
+    pub(crate) fn of_item(item: &Provided<'a>, place: usize) -> Offer<'a>
         ensures { result ≡ provided_offer place item.now }
     {
         let name = item.name();
@@ -159,7 +160,8 @@ impl<'a> Offer<'a> {
     // The order of two offers of one name.
     fn rest_cmp(&self, other: &Self) -> Ordering
         ensures { result ≡ ordering_then (option_cmp version_cmp self.now.version other.now.version)
-            (ordering_then (nat_cmp self.now.place other.now.place) (option_cmp name_cmp self.now.version other.now.version)) }
+            (ordering_then (nat_cmp self.now.place other.now.place)
+            (option_cmp name_cmp self.now.version other.now.version)) }
     {
         match version_cmp(self.read().as_ref(), other.read().as_ref()) {
             Ordering::Equal => self.later_cmp(other),

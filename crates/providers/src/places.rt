@@ -7,7 +7,7 @@ ghost use Rattle.providers.specs.Range.{IsCounted, IsRun};
 
 use crate::offer::Offer;
 use crate::range::range_of;
-use crate::run::versioned;
+use crate::run::versioned_offers;
 use crate::ticks::Ticks;
 use relation::Atom;
 use std::alloc::{AllocError, Global};
@@ -20,10 +20,12 @@ pub(crate) fn meeting<'k, 'a>(
 ) -> &'k [Offer<'a>]
     requires { IsRun run.now }
     ensures meeting { result.now ≡ filter (meets atom.now.restriction) run.now }
-    ensures counted { (d : ℕ) → length (filter (λ offer. is_some offer.version) run.now) < 2 ^ d → ticks.new ≤ ticks.old + 2 * d }
-    ensures compared { IsSome atom.now.restriction → 0 < length (filter (λ offer. is_some offer.version) run.now) → IsCounted ticks.old ticks.new }
+    ensures counted { (d : ℕ) → length (filter (λ offer. is_some offer.version) run.now) < 2 ^ d
+        → ticks.new ≤ ticks.old + 2 * d }
+    ensures compared { IsSome atom.now.restriction → 0
+        < length (filter (λ offer. is_some offer.version) run.now) → IsCounted ticks.old ticks.new }
 {
-    let with_versions = versioned(run);
+    let with_versions = versioned_offers(run);
     match atom.restriction() {
         None => run,
         Some((op, version)) => range_of(with_versions, op, version, ticks),
@@ -43,7 +45,8 @@ fn places_of(alloc: Global, offers: &[Offer<'_>]) -> Result<Vec<usize>, AllocErr
 
 // The places in order, and none twice.
 fn in_order(places: Vec<usize>) -> Result<Vec<usize>, AllocError>
-    ensures same { IfOk result (λ ordered. (place : ℕ) → Contains ordered.items place ↔ Contains places.items place) }
+    ensures same { IfOk result
+        (λ ordered. (place : ℕ) → Contains ordered.items place ↔ Contains places.items place) }
     ensures ascending { IfOk result (λ ordered. IsStrictlyIncreasing ordered.items) }
 {
     let mut ordered = places;
@@ -55,7 +58,9 @@ fn in_order(places: Vec<usize>) -> Result<Vec<usize>, AllocError>
 
 /// The places of the offers in order, and none twice.
 pub(crate) fn ordered_places(alloc: Global, offers: &[Offer<'_>]) -> Result<Vec<usize>, AllocError>
-    ensures same { IfOk result (λ ordered. (place : ℕ) → Contains ordered.items place ↔ Contains (map (λ offer. offer.place) offers.now) place) }
+    ensures same { IfOk result
+        (λ ordered. (place : ℕ) → Contains ordered.items place
+        ↔ Contains (map (λ offer. offer.place) offers.now) place) }
     ensures ascending { IfOk result (λ ordered. IsStrictlyIncreasing ordered.items) }
 {
     in_order(places_of(alloc, offers)?)

@@ -7,12 +7,12 @@ ghost use Rattle.providers.specs.Matching.{HasToCompare, IsMatchAt};
 ghost use Rattle.providers.specs.Offers.{AreOrdered, item_offers_of, own_offers_of, versioned_of};
 ghost use Rattle.providers.specs.Range.{IsCounted};
 
-use crate::draft::Draft;
 use crate::offer::Offer;
 use crate::places::{meeting, ordered_places};
 use crate::seen::SeenPkg;
 use crate::spans::{run_at, spans_of};
 use crate::ticks::Ticks;
+use crate::unsorted::UnsortedOffers;
 use indexmap::IndexMap;
 use relation::{Atom, Pkg};
 use std::alloc::{AllocError, Global};
@@ -44,34 +44,38 @@ impl<'a> Model for Providers<'a> {
 }
 
 // The packages of the list, and what they offer.
-fn draft_of<'a>(alloc: Global, packages: &[&Pkg<'a>]) -> Result<Draft<'a>, AllocError>
-    ensures packages { IfOk result (λ draft. draft.0 ≡ map (λ pkg. pkg.now) packages.now) }
-    ensures own { IfOk result (λ draft. draft.1 ≡ own_offers_of draft.0) }
-    ensures items { IfOk result (λ draft. draft.2 ≡ item_offers_of draft.0) }
+fn unsorted_of<'a>(alloc: Global, packages: &[&Pkg<'a>]) -> Result<UnsortedOffers<'a>, AllocError>
+    ensures packages { IfOk result (λ unsorted. unsorted.0 ≡ map (λ pkg. pkg.now) packages.now) }
+    ensures own { IfOk result (λ unsorted. unsorted.1 ≡ own_offers_of unsorted.0) }
+    ensures items { IfOk result (λ unsorted. unsorted.2 ≡ item_offers_of unsorted.0) }
 {
-    let mut draft = Draft::new(alloc);
+    let mut unsorted = UnsortedOffers::new(alloc);
     for pkg in packages {
-        draft.push(pkg)?;
+        unsorted.push(pkg)?;
     }
-    Ok(draft)
+    Ok(unsorted)
 }
 
 // The packages of the pairs, and what they offer. The items that are read for it are let go before the next ones.
-fn draft_of_pairs<'a>(alloc: Global, pairs: &Pairs<'_, 'a>) -> Result<Draft<'a>, AllocError>
-    ensures packages { IfOk result (λ draft. draft.0 ≡ packages_of pairs.now) }
-    ensures own { IfOk result (λ draft. draft.1 ≡ own_offers_of draft.0) }
-    ensures items { IfOk result (λ draft. draft.2 ≡ item_offers_of draft.0) }
+fn unsorted_of_pairs<'a>(
+    alloc: Global,
+    pairs: &Pairs<'_, 'a>,
+) -> Result<UnsortedOffers<'a>, AllocError>
+    ensures packages { IfOk result (λ unsorted. unsorted.0 ≡ packages_of pairs.now) }
+    ensures own { IfOk result (λ unsorted. unsorted.1 ≡ own_offers_of unsorted.0) }
+    ensures items { IfOk result (λ unsorted. unsorted.2 ≡ item_offers_of unsorted.0) }
 {
-    let mut draft = Draft::new(alloc);
+    let mut unsorted = UnsortedOffers::new(alloc);
     for pair in pairs.as_slice() {
-        draft.push_pair(alloc, pair)?;
+        unsorted.push_pair(alloc, pair)?;
     }
-    Ok(draft)
+    Ok(unsorted)
 }
 
 // The offers in order, and none twice.
 fn in_order<'a>(own: Vec<Offer<'a>>, items: Vec<Offer<'a>>) -> Result<Vec<Offer<'a>>, AllocError>
-    ensures { IfOk result (λ ordered. AreOrdered (own.entry.items ++ items.entry.items) ordered.items) }
+    ensures { IfOk result
+        (λ ordered. AreOrdered (own.entry.items ++ items.entry.items) ordered.items) }
 {
     let mut ordered = own;
     let mut further = items;
@@ -84,17 +88,17 @@ fn in_order<'a>(own: Vec<Offer<'a>>, items: Vec<Offer<'a>>) -> Result<Vec<Offer<
 }
 
 impl<'a> Providers<'a> {
-    // The packages of the draft.
-    fn of_draft(alloc: Global, draft: Draft<'a>) -> Result<Providers<'a>, AllocError>
-        requires own { draft.1 ≡ own_offers_of draft.0 }
-        requires items { draft.2 ≡ item_offers_of draft.0 }
-        ensures { IfOk result (λ providers. providers ≡ draft.entry.0) }
+    // The table of these offers, which aren't sorted yet.
+    fn of_unsorted(alloc: Global, unsorted: UnsortedOffers<'a>) -> Result<Providers<'a>, AllocError>
+        requires own { unsorted.1 ≡ own_offers_of unsorted.0 }
+        requires items { unsorted.2 ≡ item_offers_of unsorted.0 }
+        ensures { IfOk result (λ providers. providers ≡ unsorted.entry.0) }
     {
-        let Draft {
+        let UnsortedOffers {
             packages,
             own,
             items,
-        } = draft;
+        } = unsorted;
         let offers = in_order(own, items)?;
         let spans = spans_of(alloc, offers.as_slice())?;
         Ok(Providers {
@@ -109,7 +113,7 @@ impl<'a> Providers<'a> {
     pub fn of_packages(alloc: Global, packages: &[&Pkg<'a>]) -> Result<Providers<'a>, AllocError>
         ensures { IfOk result (λ providers. providers ≡ map (λ pkg. pkg.now) packages.now) }
     {
-        Providers::of_draft(alloc, draft_of(alloc, packages)?)
+        Providers::of_unsorted(alloc, unsorted_of(alloc, packages)?)
     }
 
     /// The packages of the pairs, in their order: the one at place 0 is that of the first pair. Of one that doesn't stand,
@@ -117,7 +121,7 @@ impl<'a> Providers<'a> {
     pub fn of_pairs(alloc: Global, pairs: &Pairs<'_, 'a>) -> Result<Providers<'a>, AllocError>
         ensures { IfOk result (λ providers. providers ≡ packages_of pairs.now) }
     {
-        Providers::of_draft(alloc, draft_of_pairs(alloc, pairs)?)
+        Providers::of_unsorted(alloc, unsorted_of_pairs(alloc, pairs)?)
     }
 
     /// The positions in the list, counted from 0 and ascending, of the packages that match the name without a restriction:
@@ -125,7 +129,9 @@ impl<'a> Providers<'a> {
     /// fail. Linear in the name, and n log n in the n offers of it.
     pub fn of(&self, alloc: Global, name: &[u8]) -> Result<Vec<usize>, AllocError>
         ensures exact { IfOk result (λ places. places.items ≡ providers_of name.now self.now) }
-        ensures matching { IfOk result (λ places. (place : ℕ) → Contains places.items place ↔ IsProviderAt name.now self.now place) }
+        ensures matching { IfOk result
+            (λ places. (place : ℕ) → Contains places.items place
+            ↔ IsProviderAt name.now self.now place) }
         ensures ascending { IfOk result (λ places. IsStrictlyIncreasing places.items) }
     {
         ordered_places(alloc, run_at(self.offers.as_slice(), &self.spans, name))
@@ -140,9 +146,12 @@ impl<'a> Providers<'a> {
         atom: &Atom<'_>,
         ticks: &mut Ticks,
     ) -> Result<Vec<usize>, AllocError>
-        ensures matching { IfOk result (λ places. (place : ℕ) → Contains places.items place ↔ IsMatchAt self.now atom.now place) }
+        ensures matching { IfOk result
+            (λ places. (place : ℕ) → Contains places.items place
+            ↔ IsMatchAt self.now atom.now place) }
         ensures ascending { IfOk result (λ places. IsStrictlyIncreasing places.items) }
-        ensures counted { (d : ℕ) → length (versioned_of atom.now.name self.now) < 2 ^ d → ticks.new ≤ ticks.old + 2 * d }
+        ensures counted { (d : ℕ) → length (versioned_of atom.now.name self.now) < 2 ^ d → ticks.new
+            ≤ ticks.old + 2 * d }
         ensures compared { HasToCompare atom.now self.now → IsCounted ticks.old ticks.new }
     {
         if atom.is_foreign() {

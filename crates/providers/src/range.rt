@@ -66,8 +66,11 @@ fn cut_between(
     requires parted { IsPartitionedBy (stands_in_front cut version.now) offers.now }
     requires order { start ≤ end }
     requires within { end ≤ length offers.now }
-    requires front { AllWithin (λ offer. stands_in_front cut version.now offer ≡ true) offers.now 0 start }
-    requires back { AllWithin (λ offer. stands_in_front cut version.now offer ≡ false) offers.now end (length offers.now) }
+    requires front { AllWithin
+        (λ offer. stands_in_front cut version.now offer ≡ true) offers.now 0 start }
+    requires back { AllWithin
+        (λ offer. stands_in_front cut version.now offer ≡ false) offers.now end
+        (length offers.now) }
     requires versioned { AreVersioned offers.now }
     ensures point { IsPartitionPoint (λ offer. stands_in_front cut version.now offer ≡ true)
         (λ offer. stands_in_front cut version.now offer ≡ false) offers.now result }
@@ -114,7 +117,8 @@ fn behind<'k, 'a>(
 ) -> &'k [Offer<'a>]
     requires run { IsRun offers.now }
     requires versioned { AreVersioned offers.now }
-    ensures back { result.now ≡ filter (λ offer. not (stands_in_front cut version.now offer)) offers.now }
+    ensures back { result.now
+        ≡ filter (λ offer. not (stands_in_front cut version.now offer)) offers.now }
     ensures counted { (d : ℕ) → length offers.now < 2 ^ d → ticks.new ≤ ticks.old + d }
     ensures no_fewer { ticks.old ≤ ticks.new }
     ensures compared { 0 < length offers.now → IsCounted ticks.old ticks.new }
@@ -132,7 +136,8 @@ pub(crate) fn range_of<'k, 'a>(
 ) -> &'k [Offer<'a>]
     requires run { IsRun offers.now }
     requires versioned { AreVersioned offers.now }
-    ensures meeting { result.now ≡ filter (meets (Some (record { op = op; version = version.now }))) offers.now }
+    ensures meeting { result.now
+        ≡ filter (meets (Some (record { op = op; version = version.now }))) offers.now }
     ensures counted { (d : ℕ) → length offers.now < 2 ^ d → ticks.new ≤ ticks.old + 2 * d }
     ensures compared { 0 < length offers.now → IsCounted ticks.old ticks.new }
 {

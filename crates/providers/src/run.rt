@@ -6,7 +6,7 @@ ghost use Rattle.providers.specs.Range.{IsRun};
 use crate::offer::Offer;
 
 /// Those that have a version, which stand behind the others, by a binary search.
-pub(crate) fn versioned<'k, 'a>(run: &'k [Offer<'a>]) -> &'k [Offer<'a>]
+pub(crate) fn versioned_offers<'k, 'a>(run: &'k [Offer<'a>]) -> &'k [Offer<'a>]
     requires { IsRun run.now }
     ensures { result.now ≡ filter (λ offer. is_some offer.version) run.now }
 {

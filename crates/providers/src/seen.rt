@@ -52,7 +52,7 @@ impl<'a> SeenPkg<'a> {
     {
         match pair.standing_pkg() {
             Some(pkg) => SeenPkg::of_pkg(pkg),
-            None => match pair.listed() {
+            None => match pair.index_entry() {
                 Some(entry) => SeenPkg::of_entry(entry),
                 None => unreachable!(),
             },

@@ -23,5 +23,5 @@ asked_by posed = record { id = view posed.id; asks = asks_by posed.ask }
 
 -- a line that is this question, if it is one, is read as it, and else as a mistake
 abbrev pub IsReadAs : Option Question → Result Posed Mistake → Type 0
-IsReadAs found (Ok posed) = found ≡ Some (asked_by posed)
-IsReadAs found (Err mistake) = found ≡ None
+IsReadAs question (Ok posed) = question ≡ Some (asked_by posed)
+IsReadAs question (Err mistake) = question ≡ None

@@ -5,4 +5,4 @@ use Rattle.questions.specs.declared.mistake.Refused.TheVariants.{OutOfMemory}
 
 -- memory was refused, or nothing was there to be found
 abbrev pub IsRefusalOf : {A : Type 0} → Option A → Refused → Type 0
-IsRefusalOf found refused = (refused ≡ OutOfMemory) ⊎ (found ≡ None)
+IsRefusalOf part refused = (refused ≡ OutOfMemory) ⊎ (part ≡ None)

@@ -6,7 +6,7 @@ ghost use Rattle.questions.specs.Refused.{IsRefusalOf};
 ghost use Rattle.serde_json.specs.View.{view};
 
 use crate::member::{
-    copied, flag_of, limit_of, names_pairs_by, strings_of, strings_or_none, text_at,
+    copy_texts, flag_of, limit_of, names_pairs_by, strings_of, strings_or_none, text_at,
 };
 use crate::mistake::{Mistake, Refused};
 use crate::posed::Ask;
@@ -37,7 +37,8 @@ fn no_ask(value: &Value) -> Mistake {
 
 // What the kind with this name asks.
 fn asked_as(alloc: Global, kind: &str, object: &Value) -> Result<Ask, Refused>
-    ensures ok { IfOk result (λ ask. Spec.asked_as kind.now (view object.now) ≡ Some (asks_by ask)) }
+    ensures ok { IfOk result
+        (λ ask. Spec.asked_as kind.now (view object.now) ≡ Some (asks_by ask)) }
     ensures err { IfErr result (IsRefusalOf (Spec.asked_as kind.now (view object.now))) }
 {
     if kind == "solve" {
@@ -139,7 +140,8 @@ fn check_plan_asked(alloc: Global, object: &Value) -> Result<Ask, Refused>
 
 // The verdict on a refutation.
 fn check_refutation_asked(alloc: Global, object: &Value) -> Result<Ask, Refused>
-    ensures ok { IfOk result (λ ask. Spec.check_refutation_asked (view object.now) ≡ Some (asks_by ask)) }
+    ensures ok { IfOk result
+        (λ ask. Spec.check_refutation_asked (view object.now) ≡ Some (asks_by ask)) }
     ensures err { IfErr result (IsRefusalOf (Spec.check_refutation_asked (view object.now))) }
 {
     only(
@@ -175,20 +177,23 @@ fn candidate_asked(alloc: Global, object: &Value) -> Result<Ask, Refused>
 
 // The candidates of these names, of which there is at least one.
 fn candidate_of(alloc: Global, names: &[&str]) -> Result<Ask, Refused>
-    ensures ok { IfOk result (λ ask. Spec.candidate_of (map (λ name. name.now) names.now) ≡ Some (asks_by ask)) }
-    ensures err { IfErr result (IsRefusalOf (Spec.candidate_of (map (λ name. name.now) names.now))) }
+    ensures ok { IfOk result
+        (λ ask. Spec.candidate_of (map (λ name. name.now) names.now) ≡ Some (asks_by ask)) }
+    ensures err { IfErr result
+        (IsRefusalOf (Spec.candidate_of (map (λ name. name.now) names.now))) }
 {
     if names.is_empty() {
         return Err(Refused::Mistake(Mistake::NoName));
     }
     Ok(Ask::Candidate {
-        names: copied(alloc, names)?,
+        names: copy_texts(alloc, names)?,
     })
 }
 
 // Which packages can be installed.
 fn installable_asked(alloc: Global, object: &Value) -> Result<Ask, Refused>
-    ensures ok { IfOk result (λ ask. Spec.installable_asked (view object.now) ≡ Some (asks_by ask)) }
+    ensures ok { IfOk result
+        (λ ask. Spec.installable_asked (view object.now) ≡ Some (asks_by ask)) }
     ensures err { IfErr result (IsRefusalOf (Spec.installable_asked (view object.now))) }
 {
     only(
@@ -216,7 +221,7 @@ fn installable_asked(alloc: Global, object: &Value) -> Result<Ask, Refused>
         return Err(Refused::Mistake(Mistake::NoLimit));
     };
     Ok(Ask::Installable {
-        names: copied(alloc, names.as_slice())?,
+        names: copy_texts(alloc, names.as_slice())?,
         all_versions,
         without_essential,
         limit,

@@ -71,7 +71,8 @@ pub(crate) fn strings_or_none<'v>(
     alloc: Global,
     member: Option<&'v Value>,
 ) -> Result<Option<Vec<&'v str>>, AllocError>
-    ensures { IfOk result (λ found. option_map (λ texts. map (λ text. text.now) texts.items) found
+    ensures { IfOk result
+        (λ strings. option_map (λ texts. map (λ text. text.now) texts.items) strings
         ≡ Spec.strings_or_none (option_map (λ value. view value.now) member.entry)) }
 {
     match member {
@@ -85,7 +86,8 @@ pub(crate) fn strings_of<'v>(
     alloc: Global,
     value: &'v Value,
 ) -> Result<Option<Vec<&'v str>>, AllocError>
-    ensures { IfOk result (λ found. option_map (λ texts. map (λ text. text.now) texts.items) found
+    ensures { IfOk result
+        (λ strings. option_map (λ texts. map (λ text. text.now) texts.items) strings
         ≡ Spec.strings_of (view value.now)) }
 {
     match value.as_array() {
@@ -96,7 +98,8 @@ pub(crate) fn strings_of<'v>(
 
 // The strings that items are, where each is one. Memory alone can fail.
 fn strings_in<'v>(alloc: Global, items: &'v [Value]) -> Result<Option<Vec<&'v str>>, AllocError>
-    ensures { IfOk result (λ found. option_map (λ texts. map (λ text. text.now) texts.items) found
+    ensures { IfOk result
+        (λ strings. option_map (λ texts. map (λ text. text.now) texts.items) strings
         ≡ Spec.strings_in (items_view items.now)) }
 {
     let mut texts = Vec::with_capacity(alloc, items.len())?;
@@ -110,8 +113,9 @@ fn strings_in<'v>(alloc: Global, items: &'v [Value]) -> Result<Option<Vec<&'v st
 }
 
 // The texts, copied. Memory alone can fail.
-pub(crate) fn copied(alloc: Global, texts: &[&str]) -> Result<Vec<String>, AllocError>
-    ensures { IfOk result (λ copies. map string_bytes copies.items ≡ map (λ text. text.now) texts.now) }
+pub(crate) fn copy_texts(alloc: Global, texts: &[&str]) -> Result<Vec<String>, AllocError>
+    ensures { IfOk result
+        (λ copies. map string_bytes copies.items ≡ map (λ text. text.now) texts.now) }
 {
     let mut copies = Vec::with_capacity(alloc, texts.len())?;
     for text in texts {

@@ -44,12 +44,12 @@ fn value_in(alloc: Global, line: &[u8]) -> Result<Value, Refused>
 {
     match Value::from_slice(alloc, line) {
         Ok(value) => Ok(value),
-        Err(error) => Err(refused(&error)),
+        Err(error) => Err(refusal_of(&error)),
     }
 }
 
 // What an error in the text of a JSON value is here.
-fn refused(error: &Error) -> Refused
+fn refusal_of(error: &Error) -> Refused
     ensures { (result ≡ refused.OutOfMemory) ⊎ ¬ IsMemory error.now }
 {
     match error.classify() {

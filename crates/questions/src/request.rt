@@ -26,7 +26,8 @@ pub(crate) fn request_in(alloc: Global, object: &Value) -> Result<Vec<u8>, Refus
 
 // The text of these goals. Memory alone can fail.
 fn request_text(alloc: Global, goals: &[&str], all_versions: bool) -> Result<Vec<u8>, AllocError>
-    ensures { IfOk result (λ text. text.items ≡ request_text (map (λ goal. goal.now) goals.now) all_versions) }
+    ensures { IfOk result
+        (λ text. text.items ≡ request_text (map (λ goal. goal.now) goals.now) all_versions) }
 {
     let mut text = lines_of(alloc, goals)?;
     if all_versions {
@@ -37,7 +38,8 @@ fn request_text(alloc: Global, goals: &[&str], all_versions: bool) -> Result<Vec
 
 // Each goal and a newline. Memory alone can fail.
 fn lines_of(alloc: Global, goals: &[&str]) -> Result<Vec<u8>, AllocError>
-    ensures { IfOk result (λ text. text.items ≡ flat_map line_of (map (λ goal. goal.now) goals.now)) }
+    ensures { IfOk result
+        (λ text. text.items ≡ flat_map line_of (map (λ goal. goal.now) goals.now)) }
 {
     let mut text = Vec::new(alloc);
     for goal in goals {

@@ -11,7 +11,8 @@ use std::alloc::Global;
 
 // Tells a member whose key isn't one of the names, and a value that is no object.
 pub(crate) fn only(alloc: Global, value: &Value, names: &[&str]) -> Result<(), Refused>
-    ensures ok { OnOk result (Spec.has_only (map (λ name. name.now) names.now) (view value.now) ≡ true) }
+    ensures ok { OnOk result
+        (Spec.has_only (map (λ name. name.now) names.now) (view value.now) ≡ true) }
     ensures err { IfErr result (λ e. (e ≡ refused.OutOfMemory)
         ⊎ (Spec.has_only (map (λ name. name.now) names.now) (view value.now) ≡ false)) }
 {
@@ -26,7 +27,8 @@ pub(crate) fn only(alloc: Global, value: &Value, names: &[&str]) -> Result<(), R
 
 // A key of a member that isn't one of the names, if there is such.
 fn stray<'v>(members: &'v Map<String, Value>, names: &[&str]) -> Option<&'v str>
-    ensures { is_none result ≡ Spec.are_among (map (λ name. name.now) names.now) (members_view members.now.entries) }
+    ensures { is_none result
+        ≡ Spec.are_among (map (λ name. name.now) names.now) (members_view members.now.entries) }
 {
     for (key, _) in members.iter() {
         if !is_among(names, key.as_str()) {

@@ -12,9 +12,9 @@ copied_at (pair ∷ all) zero = refl
 copied_at (pair ∷ all) (suc place) = copied_at all place
 
 -- the pair of the number after the place
-pub lent_numbered : (all slice : List (Bor Pair)) (number place : ℕ) (found : Option (Bor Pair)) → slice ≡ all → found ≡ slice_get slice place
-    → number ≡ place + 1 → option_copied found ≡ numbered number (map (λ (pair : Bor Pair). pair.now) all)
-lent_numbered all slice number place found same at is =
+pub lent_numbered : (all slice : List (Bor Pair)) (number place : ℕ) (pair : Option (Bor Pair)) → slice ≡ all → pair ≡ slice_get slice place
+    → number ≡ place + 1 → option_copied pair ≡ numbered number (map (λ (pair : Bor Pair). pair.now) all)
+lent_numbered all slice number place pair same at is =
     let next : suc place ≡ number = omega (arith, is) in
     ap option_copied at ∙ ap (λ (xs : List (Bor Pair)). option_copied (slice_get xs place)) same ∙ copied_at all place
     ∙ ap (λ (n : ℕ). numbered n (map (λ (pair : Bor Pair). pair.now) all)) next

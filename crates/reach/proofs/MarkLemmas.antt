@@ -5,7 +5,7 @@ use Rattle.std.proofs.lemmas.Bool.Decides.{eqb_tells}
 use Rattle.std.proofs.lemmas.List.{get_or_append_left, get_or_default}
 use Rattle.std.proofs.lemmas.List.Elements.{Contains-append_left, Contains-append_right}
 use Rattle.rules.specs.ElementLaws.{Contains-head}
-use Rattle.reach.specs.Marks.{Extends, Found, IsOrdered, has}
+use Rattle.reach.specs.Marks.{Extends, IsOrdered, ReachedPlaces, has}
 use mathlib.Core.Logic.{inl, inr}
 
 -- one more place is reached
@@ -31,8 +31,8 @@ extends_one marks others order longer place same marked long grown = record {
   long = long;
 }
 
-pub extends_itself : (found : Found) → Extends found found
-extends_itself found = record {
+pub extends_itself : (reached : ReachedPlaces) → Extends reached reached
+extends_itself reached = record {
   ordered = λ is. is;
   kept = λ place is. is;
   longer = omega arith;
@@ -41,7 +41,7 @@ extends_itself found = record {
 }
 
 -- what extends what extends extends
-pub extends_further : (old mid new : Found) → Extends old mid → Extends mid new → Extends old new
+pub extends_further : (old mid new : ReachedPlaces) → Extends old mid → Extends mid new → Extends old new
 extends_further old mid new one two = record {
   ordered = λ is. two.ordered (one.ordered is);
   kept = λ place is. two.kept place (one.kept place is);
@@ -51,7 +51,7 @@ extends_further old mid new one two = record {
 }
 
 -- one more of the places is marked
-pub marked_more : (old new : Found) (places : List ℕ) (index : ℕ) → Extends old new
+pub marked_more : (old new : ReachedPlaces) (places : List ℕ) (index : ℕ) → Extends old new
     → ((k : ℕ) → k < index → has old.marks (get_or places k 0) ≡ true) → has new.marks (get_or places index 0) ≡ true
     → (k : ℕ) → k < index + 1 → has new.marks (get_or places k 0) ≡ true
 marked_more old new places index extends before here k below = elim (eqb_tells k index) [
@@ -60,7 +60,7 @@ marked_more old new places index extends before here k below = elim (eqb_tells k
 ]
 
 -- where all places so far are marked, and there are no others, all are
-pub all_marked : (found : Found) (places : List ℕ) (index : ℕ) → length places ≤ index
-    → ((k : ℕ) → k < index → has found.marks (get_or places k 0) ≡ true) → All (λ place. has found.marks place ≡ true) places
-all_marked found places index all each = λ k d within.
-    ap (has found.marks) (get_or_default places k d 0 within) ∙ each k (omega (arith, all, within))
+pub all_marked : (reached : ReachedPlaces) (places : List ℕ) (index : ℕ) → length places ≤ index
+    → ((k : ℕ) → k < index → has reached.marks (get_or places k 0) ≡ true) → All (λ place. has reached.marks place ≡ true) places
+all_marked reached places index all each = λ k d within.
+    ap (has reached.marks) (get_or_default places k d 0 within) ∙ each k (omega (arith, all, within))

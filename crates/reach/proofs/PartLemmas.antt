@@ -13,7 +13,7 @@ use Rattle.rules.specs.Minimal.{IsWanted, Needs, pkg_at}
 use Rattle.rules.specs.Package.{Pkg}
 use Rattle.rules.specs.Universe.{Pair, Universe, pair_cmp}
 use Rattle.rules.specs.UniverseLaws.{pair_cmp_total}
-use Rattle.part.specs.Part.{IsClosedPart, IsPart}
+use Rattle.closed_part.specs.Part.{IsClosedPart, IsPart}
 use Rattle.reach.specs.Marks.{numbers_from}
 use Rattle.reach.specs.Reached.{HasReached}
 use Rattle.reach.proofs.NumberLemmas.{listed_is_marked, marked_is_listed, numbers_ascend, numbers_within}

@@ -16,13 +16,13 @@ use Rattle.rules.specs.declared.goal.Goal.TheVariants as goal
 use Rattle.universe_parts.specs.Parts.{packages_of}
 use Rattle.index.specs.Providers.{IsProviderAt, plain_atom}
 use Rattle.providers.specs.Matching.{IsMatchAt}
-use Rattle.reach.specs.Marks.{Extends, Found, IsOrdered, has}
+use Rattle.reach.specs.Marks.{Extends, IsOrdered, ReachedPlaces, has}
 use Rattle.reach.specs.Reached.{HasAll, HasNeeds, asked_by}
 use Rattle.reach.proofs.ListLemmas.{some_at}
 use mathlib.Core.Logic.{inl, inr}
 
 -- what is marked stays so
-pub all_kept : (packages : List Pkg) (old new : Found) (Is : Pkg → Type 0) → Extends old new → HasAll packages old.marks Is
+pub all_kept : (packages : List Pkg) (old new : ReachedPlaces) (Is : Pkg → Type 0) → Extends old new → HasAll packages old.marks Is
     → HasAll packages new.marks Is
 all_kept packages old new Is extends all = record { each = λ place pkg at is. extends.kept place (all.each place pkg at is) }
 
@@ -42,7 +42,7 @@ all_either packages marks Is Was Either cases one other = record {
 }
 
 -- one more item was gone through
-pub more_items : {A : Type 0} (packages : List Pkg) (old new : Found) (Is : A → Pkg → Type 0) (items : List A) (index : ℕ) (item : A)
+pub more_items : {A : Type 0} (packages : List Pkg) (old new : ReachedPlaces) (Is : A → Pkg → Type 0) (items : List A) (index : ℕ) (item : A)
     → Extends old new → slice_get items index ≡ Some item
     → ((k : ℕ) (each : A) → k < index → slice_get items k ≡ Some each → HasAll packages old.marks (Is each))
     → HasAll packages new.marks (Is item)
@@ -55,35 +55,35 @@ more_items {A} packages old new Is items index item extends there before here k 
 ]
 
 -- where all items were gone through, each package is marked that has a property for some item
-pub all_items : {A : Type 0} (packages : List Pkg) (found : Found) (Is : A → Pkg → Type 0) (items : List A) (index : ℕ)
+pub all_items : {A : Type 0} (packages : List Pkg) (reached : ReachedPlaces) (Is : A → Pkg → Type 0) (items : List A) (index : ℕ)
     → length items ≤ index
-    → ((k : ℕ) (each : A) → k < index → slice_get items k ≡ Some each → HasAll packages found.marks (Is each))
-    → HasAll packages found.marks (λ pkg. Any (λ item. Is item pkg) items)
-all_items packages found Is items index all each = record {
+    → ((k : ℕ) (each : A) → k < index → slice_get items k ≡ Some each → HasAll packages reached.marks (Is each))
+    → HasAll packages reached.marks (λ pkg. Any (λ item. Is item pkg) items)
+all_items packages reached Is items index all each = record {
   each = λ place pkg at some.
       (each some.0 some.1 (omega (arith, all, some.2)) (some_at items some.0 some.1 some.2 ∙ ap Some some.3)).each place pkg at some.4;
 }
 
 -- the places of packages that match have marks
-pub places_within : (packages : List Pkg) (marks : List Bool) (places found : List ℕ) (atom : Atom) → length marks ≡ length packages
-    → places ≡ found → ((place : ℕ) → Contains found place ↔ IsMatchAt packages atom place)
+pub places_within : (packages : List Pkg) (marks : List Bool) (places answer : List ℕ) (atom : Atom) → length marks ≡ length packages
+    → places ≡ answer → ((place : ℕ) → Contains answer place ↔ IsMatchAt packages atom place)
     → All (λ place. place < length marks) places
-places_within packages marks places found atom long same exact = All-intro (λ place. place < length marks) places (λ place within.
+places_within packages marks places answer atom long same exact = All-intro (λ place. place < length marks) places (λ place within.
     let of = (exact place).0 (subst (λ (xs : List ℕ). Contains xs place) same within) in
     let below : place < length packages = slice_get_within packages place of.0 of.1 in omega (arith, below, long))
 
 -- where all their places are marked, all packages that match are
-pub all_matching : (packages : List Pkg) (marks : List Bool) (places found : List ℕ) (atom : Atom)
-    → places ≡ found → ((place : ℕ) → Contains found place ↔ IsMatchAt packages atom place)
+pub all_matching : (packages : List Pkg) (marks : List Bool) (places answer : List ℕ) (atom : Atom)
+    → places ≡ answer → ((place : ℕ) → Contains answer place ↔ IsMatchAt packages atom place)
     → All (λ place. has marks place ≡ true) places → HasAll packages marks (λ pkg. Matches pkg atom)
-all_matching packages marks places found atom same exact all = record {
+all_matching packages marks places answer atom same exact all = record {
   each = λ place pkg at is.
       All-contains (λ p. has marks p ≡ true) places place all
       (subst (λ (xs : List ℕ). Contains xs place) (sym same) ((exact place).1 (pkg, at, is)));
 }
 
 -- what Pre-Depends and Depends name is what is needed
-pub all_needed : (packages : List Pkg) (old new : Found) (pkg : Pkg) → Extends old new
+pub all_needed : (packages : List Pkg) (old new : ReachedPlaces) (pkg : Pkg) → Extends old new
     → HasAll packages old.marks (λ other. Any (MatchesSome other) pkg.relations.pre_depends)
     → HasAll packages new.marks (λ other. Any (MatchesSome other) pkg.relations.depends)
     → HasAll packages new.marks (Needs pkg)
@@ -107,13 +107,13 @@ unfolding Matches FitsByName
 own_name name packages place pkg at named = (pkg, at, (refl, inl (named, tt)))
 
 -- where the places of all providers were gone through, all packages of the name are marked
-pub all_named : (pairs : List Pair) (packages : List Pkg) (marks : List Bool) (places found : List ℕ) (name : List ℕ) (index : ℕ)
-    → packages ≡ packages_of pairs → places ≡ found → length places ≤ index
-    → ((place : ℕ) → Contains found place ↔ IsProviderAt name packages place)
+pub all_named : (pairs : List Pair) (packages : List Pkg) (marks : List Bool) (places answer : List ℕ) (name : List ℕ) (index : ℕ)
+    → packages ≡ packages_of pairs → places ≡ answer → length places ≤ index
+    → ((place : ℕ) → Contains answer place ↔ IsProviderAt name packages place)
     → ((k : ℕ) (pair : Pair) → k < index → slice_get pairs (get_or places k 0) ≡ Some pair → pair.pkg.name ≡ name
     → has marks (get_or places k 0) ≡ true)
     → HasAll packages marks (λ pkg. pkg.name ≡ name)
-all_named pairs packages marks places found name index same lent all exact each = record {
+all_named pairs packages marks places answer name index same lent all exact each = record {
   each = λ place pkg at named.
       let listed : Contains places place = subst (λ (xs : List ℕ). Contains xs place) (sym lent)
       ((exact place).1 (own_name name packages place pkg at named)) in
@@ -124,7 +124,7 @@ all_named pairs packages marks places found name index same lent all exact each 
 }
 
 -- one more of the places was gone through
-pub more_named : (pairs : List Pair) (old new : Found) (places : List ℕ) (name : List ℕ) (index : ℕ) → Extends old new
+pub more_named : (pairs : List Pair) (old new : ReachedPlaces) (places : List ℕ) (name : List ℕ) (index : ℕ) → Extends old new
     → ((k : ℕ) (pair : Pair) → k < index → slice_get pairs (get_or places k 0) ≡ Some pair → pair.pkg.name ≡ name
     → has old.marks (get_or places k 0) ≡ true)
     → MatchOption (slice_get pairs (get_or places index 0)) ⊤ (λ pair. pair.pkg.name ≡ name → has new.marks (get_or places index 0) ≡ true)
@@ -140,7 +140,7 @@ more_named pairs old new places name index extends before here k pair below at n
 ]
 
 -- what is present or asked for is what is wanted
-pub all_wanted : (u : Universe) (packages : List Pkg) (old new : Found) → Extends old new
+pub all_wanted : (u : Universe) (packages : List Pkg) (old new : ReachedPlaces) → Extends old new
     → HasAll packages old.marks (λ pkg. WasPresent u pkg.name)
     → HasAll packages new.marks (λ pkg. Any (AsksFor pkg.name) u.goals)
     → HasAll packages new.marks (IsWanted u)
@@ -150,7 +150,7 @@ all_wanted u packages old new extends before here = all_either packages new.mark
     (all_kept packages old new (λ pkg. WasPresent u pkg.name) extends before) here
 
 -- what a place needs is still marked
-pub needs_kept : (packages : List Pkg) (old new : Found) (place : ℕ) → Extends old new → HasNeeds packages old.marks place
+pub needs_kept : (packages : List Pkg) (old new : ReachedPlaces) (place : ℕ) → Extends old new → HasNeeds packages old.marks place
     → HasNeeds packages new.marks place
 needs_kept packages old new place extends has_needs = record {
   each = λ pkg at.
@@ -158,7 +158,7 @@ needs_kept packages old new place extends has_needs = record {
 }
 
 -- one more place has what it needs
-pub more_have : (packages : List Pkg) (old new : Found) (turn place : ℕ) → Extends old new → turn < length old.order
+pub more_have : (packages : List Pkg) (old new : ReachedPlaces) (turn place : ℕ) → Extends old new → turn < length old.order
     → get_or old.order turn 0 ≡ place → ((k : ℕ) → k < turn → HasNeeds packages old.marks (get_or old.order k 0))
     → HasNeeds packages new.marks place → (k : ℕ) → k < turn + 1 → HasNeeds packages new.marks (get_or new.order k 0)
 more_have packages old new turn place extends within at before here k below = elim (eqb_tells k turn) [
@@ -170,12 +170,12 @@ more_have packages old new turn place extends within at before here k below = el
 ]
 
 -- where all places in the order have what they need, each marked one has
-pub all_have : (packages : List Pkg) (found : Found) (turn : ℕ) → IsOrdered found → length found.order ≤ turn
-    → ((k : ℕ) → k < turn → HasNeeds packages found.marks (get_or found.order k 0))
-    → (place : ℕ) → has found.marks place ≡ true → HasNeeds packages found.marks place
-all_have packages found turn ordered all each place marked =
+pub all_have : (packages : List Pkg) (reached : ReachedPlaces) (turn : ℕ) → IsOrdered reached → length reached.order ≤ turn
+    → ((k : ℕ) → k < turn → HasNeeds packages reached.marks (get_or reached.order k 0))
+    → (place : ℕ) → has reached.marks place ≡ true → HasNeeds packages reached.marks place
+all_have packages reached turn ordered all each place marked =
     let within = ordered.each place marked in
-    subst (HasNeeds packages found.marks) (get_or_default found.order within.0 0 place within.1 ∙ within.2)
+    subst (HasNeeds packages reached.marks) (get_or_default reached.order within.0 0 place within.1 ∙ within.2)
     (each within.0 (omega (arith, within.1, all)))
 
 -- a place without a pair has no package
@@ -193,10 +193,10 @@ pub have_there : (pairs : List Pair) (packages : List Pkg) (marks : List Bool) (
     → HasNeeds packages marks place
 have_there pairs packages marks place pair pkg same there of all = record {
   each = λ other at.
-      let found = pair_of pairs place other (subst (λ (xs : List Pkg). slice_get xs place ≡ Some other) same at) in
-      let one : Some pair ≡ Some found.0 = there ∙ found.1 in
-      let equal : pair ≡ found.0 = cc in
-      subst (λ (p : Pkg). HasAll packages marks (Needs p)) (of ∙ ap (λ (p : Pair). p.pkg) equal ∙ found.2) all;
+      let other_pair = pair_of pairs place other (subst (λ (xs : List Pkg). slice_get xs place ≡ Some other) same at) in
+      let one : Some pair ≡ Some other_pair.0 = there ∙ other_pair.1 in
+      let equal : pair ≡ other_pair.0 = cc in
+      subst (λ (p : Pkg). HasAll packages marks (Needs p)) (of ∙ ap (λ (p : Pair). p.pkg) equal ∙ other_pair.2) all;
 }
 
 -- a goal asks for no other name than this one

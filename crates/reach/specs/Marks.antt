@@ -7,16 +7,16 @@ abbrev pub has : List Bool → ℕ → Bool
 has marks place = slice_index_or marks place false
 
 -- the marks of all places, and the marked places in the order in which they were reached
-pub record Found : Type 0 where
+pub record ReachedPlaces : Type 0 where
   pub marks : List Bool
   pub order : List ℕ
 
 -- each marked place is in the order
-pub record IsOrdered (found : Found) : Type 0 where
-  pub each : (place : ℕ) → has found.marks place ≡ true → Contains found.order place
+pub record IsOrdered (reached : ReachedPlaces) : Type 0 where
+  pub each : (place : ℕ) → has reached.marks place ≡ true → Contains reached.order place
 
 -- more places were reached
-pub record Extends (old new : Found) : Type 0 where
+pub record Extends (old new : ReachedPlaces) : Type 0 where
   pub ordered : IsOrdered old → IsOrdered new
   pub kept : (place : ℕ) → has old.marks place ≡ true → has new.marks place ≡ true
   pub longer : length old.order ≤ length new.order

@@ -54,7 +54,9 @@ impl Marks {
         requires long { length self.old.marks ≡ length universe.now.pairs }
         requires ordered { IsOrdered self.old }
         ensures extends { OnOk result (Extends self.old self.new) }
-        ensures needed { OnOk result ((place : ℕ) → has self.new.marks place ≡ true → HasNeeds providers.now self.new.marks place) }
+        ensures needed { OnOk result
+            ((place : ℕ) → has self.new.marks place ≡ true
+            → HasNeeds providers.now self.new.marks place) }
     {
         for turn in 0..usize::MAX {
             let Some(place) = self.at(turn) else {
@@ -69,8 +71,8 @@ impl Marks {
 /// The places of the pairs that are wanted, and with a pair of those that it needs. Memory alone can fail. What is wanted is
 /// found by its names, and each reached package is read once.
 pub(crate) fn reached_in(alloc: Global, universe: &Universe<'_, '_>) -> Result<Marks, AllocError>
-    ensures long { IfOk result (λ found. length found.marks ≡ length universe.now.pairs) }
-    ensures reached { IfOk result (λ found. HasReached universe.now found.marks) }
+    ensures long { IfOk result (λ reached. length reached.marks ≡ length universe.now.pairs) }
+    ensures reached { IfOk result (λ reached. HasReached universe.now reached.marks) }
 {
     let providers = universe.providers();
     let mut marks = Marks::of_none(alloc, universe.pairs().len())?;

@@ -3,12 +3,12 @@
 // main type is `Part`, which is used in place of a `Universe`.
 #![tactic(auto)]
 
-mod closed_part;
 mod closing;
 mod marks;
 mod needs;
 mod pairs_part;
+mod reached_part;
 mod wanted;
 
-pub use closed_part::{Reached, reach};
 pub use pairs_part::Part;
+pub use reached_part::{Reached, reach};

@@ -15,16 +15,17 @@ pub(crate) struct Marks {
 }
 
 impl Model for Marks {
-    ghost use Rattle.reach.specs.Marks.{Found};
+    ghost use Rattle.reach.specs.Marks.{ReachedPlaces};
 
-    ghost Value = { Found };
+    ghost Value = { ReachedPlaces };
 
     ghost view = { λ m. record { marks = m.marks.items; order = m.order.items } };
 }
 
 fn set_mark(marks: &mut Vec<bool>, place: usize)
     requires { place < length marks.old.items }
-    ensures kept { (other : ℕ) → other ≢ place → has marks.new.items other ≡ has marks.old.items other }
+    ensures kept { (other : ℕ) → other ≢ place → has marks.new.items other
+        ≡ has marks.old.items other }
     ensures marked { has marks.new.items place ≡ true }
     ensures long { length marks.new.items ≡ length marks.old.items }
 {
@@ -48,7 +49,7 @@ fn push_number(numbers: &mut Vec<u32>, place: usize) -> Result<(), AllocError>
 impl Marks {
     /// No places, with marks for so many.
     pub(crate) fn of_none(alloc: Global, count: usize) -> Result<Marks, AllocError>
-        ensures long { IfOk result (λ found. length found.marks ≡ count) }
+        ensures long { IfOk result (λ reached. length reached.marks ≡ count) }
         ensures ordered { IfOk result IsOrdered }
     {
         Ok(Marks {

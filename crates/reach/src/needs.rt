@@ -22,7 +22,8 @@ impl Marks {
     ) -> Result<(), AllocError>
         requires { length self.old.marks ≡ length providers.now }
         ensures extends { OnOk result (Extends self.old self.new) }
-        ensures marked { OnOk result (HasAll providers.now self.new.marks (λ pkg. Matches pkg atom.now)) }
+        ensures marked { OnOk result
+            (HasAll providers.now self.new.marks (λ pkg. Matches pkg atom.now)) }
     {
         let mut ticks = Ticks::new();
         let places = providers.matching(alloc, atom, &mut ticks)?;
@@ -39,7 +40,8 @@ impl Marks {
     ) -> Result<(), AllocError>
         requires { length self.old.marks ≡ length providers.now }
         ensures extends { OnOk result (Extends self.old self.new) }
-        ensures marked { OnOk result (HasAll providers.now self.new.marks (λ pkg. MatchesSome pkg clause.now)) }
+        ensures marked { OnOk result
+            (HasAll providers.now self.new.marks (λ pkg. MatchesSome pkg clause.now)) }
     {
         for atom in clause.as_slice() {
             self.mark_matching(alloc, providers, atom)?;
@@ -56,7 +58,8 @@ impl Marks {
     ) -> Result<(), AllocError>
         requires { length self.old.marks ≡ length providers.now }
         ensures extends { OnOk result (Extends self.old self.new) }
-        ensures marked { OnOk result (HasAll providers.now self.new.marks (λ pkg. Any (MatchesSome pkg) clauses.now)) }
+        ensures marked { OnOk result
+            (HasAll providers.now self.new.marks (λ pkg. Any (MatchesSome pkg) clauses.now)) }
     {
         for clause in clauses {
             self.mark_clause(alloc, providers, clause)?;

@@ -22,7 +22,8 @@ fn is_same(name: &[u8], other: &[u8]) -> bool
 
 // Whether the pair at a place has this name.
 fn is_named(pairs: &[Pair<'_, '_>], place: usize, name: &[u8]) -> bool
-    ensures { IsTrue result ↔ MatchOption (slice_get pairs.now place) ⊥ (λ pair. pair.pkg.name ≡ name.now) }
+    ensures { IsTrue result
+        ↔ MatchOption (slice_get pairs.now place) ⊥ (λ pair. pair.pkg.name ≡ name.now) }
 {
     match pairs.get(place) {
         None => false,
@@ -54,7 +55,9 @@ impl Marks {
     ) -> Result<(), AllocError>
         requires { length self.old.marks ≡ length pairs.now }
         ensures extends { OnOk result (Extends self.old self.new) }
-        ensures marked { OnOk result (MatchOption (slice_get pairs.now place) ⊤ (λ pair. pair.pkg.name ≡ name.now → has self.new.marks place ≡ true)) }
+        ensures marked { OnOk result
+            (MatchOption (slice_get pairs.now place) ⊤
+            (λ pair. pair.pkg.name ≡ name.now → has self.new.marks place ≡ true)) }
     {
         if !is_named(pairs, place, name) {
             return Ok(());
@@ -74,7 +77,8 @@ impl Marks {
         requires offered { providers.now ≡ packages_of universe.now.pairs }
         requires long { length self.old.marks ≡ length universe.now.pairs }
         ensures extends { OnOk result (Extends self.old self.new) }
-        ensures marked { OnOk result (HasAll providers.now self.new.marks (λ pkg. pkg.name ≡ name.now)) }
+        ensures marked { OnOk result
+            (HasAll providers.now self.new.marks (λ pkg. pkg.name ≡ name.now)) }
     {
         let pairs = universe.pairs();
         let places = providers.of(alloc, name)?;
@@ -95,7 +99,9 @@ impl Marks {
         requires offered { providers.now ≡ packages_of universe.now.pairs }
         requires long { length self.old.marks ≡ length universe.now.pairs }
         ensures extends { OnOk result (Extends self.old self.new) }
-        ensures marked { OnOk result (HasAll providers.now self.new.marks (λ pkg. (start.now.name ≡ pkg.name) × IsTrue start.now.is_present)) }
+        ensures marked { OnOk result
+            (HasAll providers.now self.new.marks
+            (λ pkg. (start.now.name ≡ pkg.name) × IsTrue start.now.is_present)) }
     {
         if !start.is_present() {
             return Ok(());
@@ -115,7 +121,8 @@ impl Marks {
         requires offered { providers.now ≡ packages_of universe.now.pairs }
         requires long { length self.old.marks ≡ length universe.now.pairs }
         ensures extends { OnOk result (Extends self.old self.new) }
-        ensures marked { OnOk result (HasAll providers.now self.new.marks (λ pkg. AsksFor pkg.name goal.now)) }
+        ensures marked { OnOk result
+            (HasAll providers.now self.new.marks (λ pkg. AsksFor pkg.name goal.now)) }
     {
         match asked_by(goal) {
             None => Ok(()),
@@ -136,7 +143,8 @@ impl Marks {
         requires offered { providers.now ≡ packages_of universe.now.pairs }
         requires long { length self.old.marks ≡ length universe.now.pairs }
         ensures extends { OnOk result (Extends self.old self.new) }
-        ensures marked { OnOk result (HasAll providers.now self.new.marks (λ pkg. WasPresent universe.now pkg.name)) }
+        ensures marked { OnOk result
+            (HasAll providers.now self.new.marks (λ pkg. WasPresent universe.now pkg.name)) }
     {
         for start in universe.starts() {
             self.mark_start(alloc, universe, providers, start)?;
@@ -154,7 +162,9 @@ impl Marks {
         requires offered { providers.now ≡ packages_of universe.now.pairs }
         requires long { length self.old.marks ≡ length universe.now.pairs }
         ensures extends { OnOk result (Extends self.old self.new) }
-        ensures marked { OnOk result (HasAll providers.now self.new.marks (λ pkg. Any (AsksFor pkg.name) universe.now.goals)) }
+        ensures marked { OnOk result
+            (HasAll providers.now self.new.marks
+            (λ pkg. Any (AsksFor pkg.name) universe.now.goals)) }
     {
         for goal in universe.goals() {
             self.mark_goal(alloc, universe, providers, goal)?;

@@ -31,9 +31,9 @@ numbered : {X : Type 0} (items : List X) (item : X) → Contains items item → 
 numbered items item within = (suc within.0, slice_get_read items (length items) within.0 item refl within.1 (sym within.2))
 
 -- the literal that a selected pair isn't selected isn't true
-not_unselected : (selection : ℕ → Bool) (found : Literal) (number : ℕ) → found ≡ literal.Unselected number → IsTrueOf selection found
+not_unselected : (selection : ℕ → Bool) (disjunct : Literal) (number : ℕ) → disjunct ≡ literal.Unselected number → IsTrueOf selection disjunct
     → ¬ IsTrue (selection number)
-not_unselected selection found number same is chosen =
+not_unselected selection disjunct number same is chosen =
     let e : true ≡ false = sym chosen ∙ subst (IsTrueOf selection) same is in absurd (cc)
 
 -- two selected pairs make no clause true that says that one of them isn't
@@ -61,31 +61,31 @@ module _ (u : Universe) (selection : ℕ → Bool) (needed : HasNeededPairs u) (
   admitted : IsAdmittedIn u members
   unfolding IsAdmittedIn
   admitted = each_member (λ member. Any (λ pair. IsOf member.name member.version pair.pkg) u.pairs) (λ number pair there chosen.
-      Any-intro (λ (found : Pair). IsOf pair.pkg.name pair.pkg.version found.pkg) u.pairs pair (item_at-contains u.pairs number pair there)
+      Any-intro (λ (other_pair : Pair). IsOf pair.pkg.name pair.pkg.version other_pair.pkg) u.pairs pair (item_at-contains u.pairs number pair there)
       (refl, SameVersion-refl pair.pkg.version))
 
   -- two selected pairs of one name are of one version
-  agrees : (number other : ℕ) (pair found : Pair) → item_at u.pairs number ≡ Some pair → item_at u.pairs other ≡ Some found
-      → IsTrue (selection number) → IsTrue (selection other) → found.pkg.name ≡ pair.pkg.name
-      → (number ≡ other) ⊎ ((number < other) ⊎ (other < number)) → SameVersion pair.pkg.version found.pkg.version
-  agrees number other pair found there also chosen too named (inr (inl below)) = absurd (not_out selection number other chosen too
-      (premises (premise.Same number other) (below, (pair, there, (found, also, named)))))
-  agrees number other pair found there also chosen too named (inr (inr above)) = absurd (not_out selection other number too chosen
-      (premises (premise.Same other number) (above, (found, also, (pair, there, sym named)))))
-  agrees number other pair found there also chosen too named (inl same) =
-      let one : pair ≡ found = same_Some pair found (sym there ∙ ap (item_at u.pairs) same ∙ also) in
+  agrees : (number other : ℕ) (pair other_pair : Pair) → item_at u.pairs number ≡ Some pair → item_at u.pairs other ≡ Some other_pair
+      → IsTrue (selection number) → IsTrue (selection other) → other_pair.pkg.name ≡ pair.pkg.name
+      → (number ≡ other) ⊎ ((number < other) ⊎ (other < number)) → SameVersion pair.pkg.version other_pair.pkg.version
+  agrees number other pair other_pair there also chosen too named (inr (inl below)) = absurd (not_out selection number other chosen too
+      (premises (premise.Same number other) (below, (pair, there, (other_pair, also, named)))))
+  agrees number other pair other_pair there also chosen too named (inr (inr above)) = absurd (not_out selection other number too chosen
+      (premises (premise.Same other number) (above, (other_pair, also, (pair, there, sym named)))))
+  agrees number other pair other_pair there also chosen too named (inl same) =
+      let one : pair ≡ other_pair = same_Some pair other_pair (sym there ∙ ap (item_at u.pairs) same ∙ also) in
       subst (λ (p : Pair). SameVersion pair.pkg.version p.pkg.version) one (SameVersion-refl pair.pkg.version)
 
   one_version : HasOneVersionEach members
   unfolding HasOneVersionEach AgreesWith
   one_version = each_member (λ member. All (AgreesWith member) members) (λ number pair there chosen.
-      each_member (AgreesWith pair.pkg) (λ other found also too named.
-      agrees number other pair found there also chosen too named (cases_order number other)))
+      each_member (AgreesWith pair.pkg) (λ other other_pair also too named.
+      agrees number other pair other_pair there also chosen too named (cases_order number other)))
 
   -- a clause of a field is met
   met : (number : ℕ) (pair : Pair) → item_at u.pairs number ≡ Some pair → IsTrue (selection number) → (field : Pkg → List (List Atom))
-      → ((clause : ℕ) → HasAt (field pair.pkg) clause (λ _. ⊤) → IsClauseTrue selection (λ found. (found ≡ literal.Unselected number)
-      ⊎ Selects u (λ other. PairHas u number (λ pkg. HasAt (field pkg) clause (MatchesSome other))) found))
+      → ((clause : ℕ) → HasAt (field pair.pkg) clause (λ _. ⊤) → IsClauseTrue selection (λ disjunct. (disjunct ≡ literal.Unselected number)
+      ⊎ Selects u (λ other. PairHas u number (λ pkg. HasAt (field pkg) clause (MatchesSome other))) disjunct))
       → MeetsClauses members (field pair.pkg)
   unfolding MeetsClauses MeetsClause
   met number pair there chosen field holds =
@@ -101,12 +101,12 @@ module _ (u : Universe) (selection : ℕ → Bool) (needed : HasNeededPairs u) (
       matching : (atoms : List Atom) (clause : ℕ) → item_at (field pair.pkg) clause ≡ Some atoms
           → (member : Pkg) × Contains members member × PairHas u number (λ pkg. HasAt (field pkg) clause (MatchesSome member))
           → Any (λ member. MatchesSome member atoms) members
-      matching atoms clause at found =
-          let has = found.2 in
+      matching atoms clause at meeting =
+          let has = meeting.2 in
           let one : has.0 ≡ pair = same_Some has.0 pair (sym has.1 ∙ there) in
           let same : has.2.0 ≡ atoms = same_Some has.2.0 atoms
           (sym has.2.1 ∙ ap (λ (p : Pair). item_at (field p.pkg) clause) one ∙ at) in
-          Any-intro (λ member. MatchesSome member atoms) members found.0 found.1 (subst (MatchesSome found.0) same has.2.2)
+          Any-intro (λ member. MatchesSome member atoms) members meeting.0 meeting.1 (subst (MatchesSome meeting.0) same has.2.2)
 
   sound : IsSound members
   unfolding IsSound MatchedByNoOther ConflictsWith BreaksOther
@@ -116,11 +116,11 @@ module _ (u : Universe) (selection : ℕ → Bool) (needed : HasNeededPairs u) (
     depends = met number pair there chosen (λ pkg. pkg.relations.depends)
         (λ clause has. premises (premise.Depends number clause) (pair, there, has));
     conflicts = each_member (λ other. other.name ≢ pair.pkg.name → ¬ MatchesSome other pair.pkg.relations.conflicts)
-        (λ other found also too differ matches. not_out selection number other chosen too
-        (premises (premise.Conflicts number other) (pair, there, (found, also, (differ, matches)))));
+        (λ other other_pair also too differ matches. not_out selection number other chosen too
+        (premises (premise.Conflicts number other) (pair, there, (other_pair, also, (differ, matches)))));
     breaks = each_member (λ other. other.name ≢ pair.pkg.name → ¬ MatchesSome other pair.pkg.relations.breaks)
-        (λ other found also too differ matches. not_out selection number other chosen too
-        (premises (premise.Breaks number other) (pair, there, (found, also, (differ, matches)))));
+        (λ other other_pair also too differ matches. not_out selection number other chosen too
+        (premises (premise.Breaks number other) (pair, there, (other_pair, also, (differ, matches)))));
   })
 
   -- a name of which a pair is selected has a member
@@ -132,9 +132,9 @@ module _ (u : Universe) (selection : ℕ → Bool) (needed : HasNeededPairs u) (
 
   -- a pair that a true clause selects is a member of its name and version
   versioned : (number : ℕ) (pair : Pair) → item_at u.pairs number ≡ Some pair → (name version : List ℕ) → IsOf name version pair.pkg
-      → (found : Literal) → found ≡ literal.Selected number → IsTrueOf selection found → HasVersion name version members
+      → (disjunct : Literal) → disjunct ≡ literal.Selected number → IsTrueOf selection disjunct → HasVersion name version members
   unfolding HasVersion
-  versioned number pair there name version of found same is = Any-intro (IsOf name version) members pair.pkg
+  versioned number pair there name version of disjunct same is = Any-intro (IsOf name version) members pair.pkg
       (is_member u selection number pair there (subst (IsTrueOf selection) same is)) of
 
   -- what an install or upgrade goal asks for is a member
@@ -148,8 +148,8 @@ module _ (u : Universe) (selection : ℕ → Bool) (needed : HasNeededPairs u) (
 
   -- what a goal says of a pair is true
   said : (number other : ℕ) (asked : Goal) → item_at u.goals number ≡ Some asked
-      → IsClauseTrue selection (λ found. HasAt u.goals number (λ asked. IsSaidBy asked other found))
-      → (found : Literal) × IsSaidBy asked other found × IsTrueOf selection found
+      → IsClauseTrue selection (λ disjunct. HasAt u.goals number (λ asked. IsSaidBy asked other disjunct))
+      → (disjunct : Literal) × IsSaidBy asked other disjunct × IsTrueOf selection disjunct
   said number other asked there holds = (
     holds.0,
     subst (λ g. IsSaidBy g other holds.0) (same_Some holds.1.0 asked (sym holds.1.1 ∙ there)) holds.1.2,

@@ -35,10 +35,10 @@ either_out selection number other never = at (selection number) (selection other
 -- a pair that makes a clause true where it is selected makes it true with the literal that it isn't
 unless_out : (selection : ℕ → Bool) (number : ℕ) (clause : Literal → Type 0)
     → (IsTrue (selection number) → IsClauseTrue selection clause)
-    → IsClauseTrue selection (λ found. (found ≡ literal.Unselected number) ⊎ clause found)
+    → IsClauseTrue selection (λ disjunct. (disjunct ≡ literal.Unselected number) ⊎ clause disjunct)
 unless_out selection number clause gives = at (selection number) refl
   where
-    at : (b : Bool) → selection number ≡ b → IsClauseTrue selection (λ found. (found ≡ literal.Unselected number) ⊎ clause found)
+    at : (b : Bool) → selection number ≡ b → IsClauseTrue selection (λ disjunct. (disjunct ≡ literal.Unselected number) ⊎ clause disjunct)
     at false is = (literal.Unselected number, inl refl, is)
     at true is = let one = gives is in (one.0, inr one.1, one.2)
 
@@ -50,16 +50,16 @@ is_chosen u selection ascending number pair there name version of has =
     Any-elim (IsOf name version) (selected u selection) (IsTrue (selection number)) (λ pkg within is. one pkg is (picked u selection pkg within)) has
   where
     one : (pkg : Pkg) → IsOf name version pkg → IsPicked u selection pkg → IsTrue (selection number)
-    one pkg is found =
-        let here : IsOf name version found.pair.pkg = subst (IsOf name version) (sym found.same) is in
-        let names : found.pair.pkg.name ≡ pair.pkg.name = here.0 ∙ sym of.0 in
-        let versions : SameVersion pair.pkg.version found.pair.pkg.version = SameVersion-trans pair.pkg.version version found.pair.pkg.version
-        of.1 (SameVersion-symm found.pair.pkg.version version here.1) in
-        let same : found.number ≡ number = same_number found.number number
-        (apart u ascending found.number number found.pair pair found.there there (sym names)
-        (SameVersion-symm pair.pkg.version found.pair.pkg.version versions))
-        (apart u ascending number found.number pair found.pair there found.there names versions) in
-        subst (λ n. IsTrue (selection n)) same found.chosen
+    one pkg is member =
+        let here : IsOf name version member.pair.pkg = subst (IsOf name version) (sym member.same) is in
+        let names : member.pair.pkg.name ≡ pair.pkg.name = here.0 ∙ sym of.0 in
+        let versions : SameVersion pair.pkg.version member.pair.pkg.version = SameVersion-trans pair.pkg.version version member.pair.pkg.version
+        of.1 (SameVersion-symm member.pair.pkg.version version here.1) in
+        let same : member.number ≡ number = same_number member.number number
+        (apart u ascending member.number number member.pair pair member.there there (sym names)
+        (SameVersion-symm pair.pkg.version member.pair.pkg.version versions))
+        (apart u ascending number member.number pair member.pair there member.there names versions) in
+        subst (λ n. IsTrue (selection n)) same member.chosen
       where
         same_number : (a b : ℕ) → ¬ (a < b) → ¬ (b < a) → a ≡ b
         same_number a b below above = omega (arith, below, above)
@@ -77,18 +77,18 @@ module _ (u : Universe) (selection : ℕ → Bool) (ascending : HasAscendingPair
   unfolding HasOneVersionEach AgreesWith
   same number other is = either_out selection number other (λ both.
       let pair : Pair = is.1.0 in
-      let found : Pair = is.1.2.0 in
-      let agrees : AgreesWith pair.pkg found.pkg = All-contains (AgreesWith pair.pkg) (selected u selection) found.pkg
+      let other_pair : Pair = is.1.2.0 in
+      let agrees : AgreesWith pair.pkg other_pair.pkg = All-contains (AgreesWith pair.pkg) (selected u selection) other_pair.pkg
       (All-contains (λ member. All (AgreesWith member) (selected u selection)) (selected u selection) pair.pkg fits.one_version
-      (is_member u selection number pair is.1.1 both.0)) (is_member u selection other found is.1.2.1 both.1) in
-      apart u ascending number other pair found is.1.1 is.1.2.1 is.1.2.2 (agrees is.1.2.2) is.0)
+      (is_member u selection number pair is.1.1 both.0)) (is_member u selection other other_pair is.1.2.1 both.1) in
+      apart u ascending number other pair other_pair is.1.1 is.1.2.1 is.1.2.2 (agrees is.1.2.2) is.0)
 
   -- a clause of a field, which members meet
   met : (number : ℕ) (field : Pkg → List (List Atom)) (clause : ℕ)
       → (is : PairHas u number (λ pkg. HasAt (field pkg) clause (λ _. ⊤)))
       → (IsTrue (selection number) → MeetsClauses (selected u selection) (field is.0.pkg))
-      → IsClauseTrue selection (λ found. (found ≡ literal.Unselected number)
-      ⊎ Selects u (λ other. PairHas u number (λ pkg. HasAt (field pkg) clause (MatchesSome other))) found)
+      → IsClauseTrue selection (λ disjunct. (disjunct ≡ literal.Unselected number)
+      ⊎ Selects u (λ other. PairHas u number (λ pkg. HasAt (field pkg) clause (MatchesSome other))) disjunct)
   unfolding MeetsClauses MeetsClause
   met number field clause is meets = unless_out selection number
       (Selects u (λ other. PairHas u number (λ pkg. HasAt (field pkg) clause (MatchesSome other)))) (λ chosen.
@@ -102,12 +102,12 @@ module _ (u : Universe) (selection : ℕ → Bool) (ascending : HasAscendingPair
 
   -- two pairs of which the first has atoms against the second
   against : (number other : ℕ) (atoms : Pkg → List Atom)
-      → (is : PairsAre u number other (λ pkg found. (found.name ≢ pkg.name) × MatchesSome found (atoms pkg)))
+      → (is : PairsAre u number other (λ pkg other_pkg. (other_pkg.name ≢ pkg.name) × MatchesSome other_pkg (atoms pkg)))
       → (IsTrue (selection number) → MatchedByNoOther (selected u selection) is.0.pkg.name (atoms is.0.pkg))
       → IsClauseTrue selection (IsEitherOut number other)
   unfolding MatchedByNoOther
   against number other atoms is none = either_out selection number other (λ both.
-      All-contains (λ (found : Pkg). found.name ≢ is.0.pkg.name → ¬ MatchesSome found (atoms is.0.pkg)) (selected u selection) is.2.0.pkg
+      All-contains (λ (other_pkg : Pkg). other_pkg.name ≢ is.0.pkg.name → ¬ MatchesSome other_pkg (atoms is.0.pkg)) (selected u selection) is.2.0.pkg
       (none both.0) (is_member u selection other is.2.0 is.2.1 both.1) is.2.2.0 is.2.2.1)
 
   -- a goal is fulfilled
@@ -159,7 +159,7 @@ module _ (u : Universe) (selection : ℕ → Bool) (ascending : HasAscendingPair
   -- a remove, purge or upgrade-all goal and a pair
   speaks : (number other : ℕ) (asked : Goal) (pair : Pair) → item_at u.goals number ≡ Some asked → item_at u.pairs other ≡ Some pair
       → SpeaksOf u asked pair.pkg → Fulfils u (selected u selection) asked
-      → IsClauseTrue selection (λ found. HasAt u.goals number (λ asked. IsSaidBy asked other found))
+      → IsClauseTrue selection (λ disjunct. HasAt u.goals number (λ asked. IsSaidBy asked other disjunct))
   speaks number other (goal.Install name restriction) pair there also of fulfils = absurd of
   speaks number other (goal.Remove name) pair there also of fulfils =
       (literal.Unselected other, (goal.Remove name, there, refl), unselected other pair also name of fulfils)

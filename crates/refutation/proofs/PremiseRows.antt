@@ -51,12 +51,12 @@ unfolding dec_Decides dec_text
 foo_not_a = not_so (dec_text (codes "foo") (codes "a")) refl
 
 -- the clause of `depends 2 1` is `-2` and the provider: foo isn't selected, or a is
-pub depends_has_the_provider : (found : Literal) → IsInPremise u (premise.Depends 2 1) found
-    ↔ ((found ≡ literal.Unselected 2) ⊎ (found ≡ literal.Selected 1))
-depends_has_the_provider found = (to found, back)
+pub depends_has_the_provider : (disjunct : Literal) → IsInPremise u (premise.Depends 2 1) disjunct
+    ↔ ((disjunct ≡ literal.Unselected 2) ⊎ (disjunct ≡ literal.Selected 1))
+depends_has_the_provider disjunct = (to disjunct, back)
   where
-    to : (found : Literal) → IsInPremise u (premise.Depends 2 1) found → (found ≡ literal.Unselected 2) ⊎ (found ≡ literal.Selected 1)
-    to found (inl out) = inl out
+    to : (disjunct : Literal) → IsInPremise u (premise.Depends 2 1) disjunct → (disjunct ≡ literal.Unselected 2) ⊎ (disjunct ≡ literal.Selected 1)
+    to disjunct (inl out) = inl out
     to (literal.Unselected number) (inr selects) = absurd selects
     to (literal.Selected zero) (inr selects) = absurd (let e : None ≡ Some selects.0 = selects.1 in cc)
     to (literal.Selected (suc zero)) (inr selects) = inr refl
@@ -68,7 +68,7 @@ depends_has_the_provider found = (to found, back)
         (subst (MatchesSome selects.0.pkg) (sym (same_Some v of.2.0 has)) of.2.2)))
     to (literal.Selected (suc (suc (suc number)))) (inr selects) = absurd (let e : None ≡ Some selects.0 = selects.1 in cc)
 
-    back : (found ≡ literal.Unselected 2) ⊎ (found ≡ literal.Selected 1) → IsInPremise u (premise.Depends 2 1) found
+    back : (disjunct ≡ literal.Unselected 2) ⊎ (disjunct ≡ literal.Selected 1) → IsInPremise u (premise.Depends 2 1) disjunct
     back (inl out) = inl out
     back (inr selected) = subst (IsInPremise u (premise.Depends 2 1)) (sym selected)
         (inr (indexed a_1, refl, (indexed foo_1, refl, (v, refl, provider_matches))))
@@ -80,7 +80,7 @@ upgrade_of_nothing = record {
   ends = record { earlier = []; last = line.Premise (premise.Goal 1); place = refl; empty = none };
 }
   where
-    none : (found : Literal) → ¬ IsInPremise u (premise.Goal 1) found
+    none : (disjunct : Literal) → ¬ IsInPremise u (premise.Goal 1) disjunct
     none (literal.Selected number) within =
         subst (λ g. IsAskedBy u g within.0.pkg) (sym (same_Some (goal.Upgrade (codes "foo")) within.2.0 within.2.1)) within.2.2
     none (literal.Unselected number) within = within

@@ -72,14 +72,14 @@ abbrev clause_b : Literal → Type 0
 clause_b = IsInLine u (line.Premise (premise.Goal 2))
 
 -- what a goal to install a name asks for has it
-asked_name : (name : List ℕ) (asked : Goal) (pair found : Pair) → Some (goal.Install name None) ≡ Some asked → Some found ≡ Some pair
-    → IsAskedBy u asked pair.pkg → found.pkg.name ≡ name
-asked_name name asked pair found goals pairs by =
+asked_name : (name : List ℕ) (asked : Goal) (pair other_pair : Pair) → Some (goal.Install name None) ≡ Some asked → Some other_pair ≡ Some pair
+    → IsAskedBy u asked pair.pkg → other_pair.pkg.name ≡ name
+asked_name name asked pair other_pair goals pairs by =
     let here : IsAskedBy u (goal.Install name None) pair.pkg =
     subst (λ g. IsAskedBy u g pair.pkg) (sym (same_Some (goal.Install name None) asked goals)) by in
-    ap (λ (p : Pair). p.pkg.name) (same_Some found pair pairs) ∙ here.0
+    ap (λ (p : Pair). p.pkg.name) (same_Some other_pair pair pairs) ∙ here.0
 
-only_a : (found : Literal) → clause_a found → found ≡ literal.Selected 1
+only_a : (disjunct : Literal) → clause_a disjunct → disjunct ≡ literal.Selected 1
 only_a (literal.Unselected number) within = absurd within
 only_a (literal.Selected zero) within = absurd (let e : None ≡ Some within.0 = within.1 in cc)
 only_a (literal.Selected (suc zero)) within = refl
@@ -87,7 +87,7 @@ only_a (literal.Selected (suc (suc zero))) within =
     absurd (a_not_b (asked_name (codes "a") within.2.0 within.0 (indexed b_1) within.2.1 within.1 within.2.2))
 only_a (literal.Selected (suc (suc (suc number)))) within = absurd (let e : None ≡ Some within.0 = within.1 in cc)
 
-only_b : (found : Literal) → clause_b found → found ≡ literal.Selected 2
+only_b : (disjunct : Literal) → clause_b disjunct → disjunct ≡ literal.Selected 2
 only_b (literal.Unselected number) within = absurd within
 only_b (literal.Selected zero) within = absurd (let e : None ≡ Some within.0 = within.1 in cc)
 only_b (literal.Selected (suc zero)) within =
@@ -115,20 +115,20 @@ b_open (inr opened) = opened.0
 
 -- behind both goals the clause of the conflict is all false
 all_false : IsAllFalse (FalseAfter behind_a clause_b) (IsInLine u (line.Premise (premise.Conflicts 1 2)))
-all_false found (inl one) = subst (FalseAfter behind_a clause_b) (sym one) (inl (inr (in_a, Contains-nil (literal.Selected 1))))
-all_false found (inr two) = subst (FalseAfter behind_a clause_b) (sym two) (inr (in_b, b_open))
+all_false disjunct (inl one) = subst (FalseAfter behind_a clause_b) (sym one) (inl (inr (in_a, Contains-nil (literal.Selected 1))))
+all_false disjunct (inr two) = subst (FalseAfter behind_a clause_b) (sym two) (inr (in_b, b_open))
 
 pub by_all_follows : IsGoodLine u premises by_all
 by_all_follows = (
   line.Premise (premise.Goal 1),
   refl,
   (
-    (λ found other one two. only_a found one.0 ∙ sym (only_a other two.0)),
+    (λ disjunct other one two. only_a disjunct one.0 ∙ sym (only_a other two.0)),
     (
       line.Premise (premise.Goal 2),
       refl,
       (
-        (λ found other one two. only_b found one.0 ∙ sym (only_b other two.0)),
+        (λ disjunct other one two. only_b disjunct one.0 ∙ sym (only_b other two.0)),
         (line.Premise (premise.Conflicts 1 2), refl, all_false),
       ),
     ),
@@ -168,7 +168,7 @@ pub first_bad_is_4 : IsFirstBad u (premises ++ by_two ∷ []) 4
 unfolding IsFirstBad
 first_bad_is_4 = inl (record {
   earlier = premises;
-  found = by_two;
+  line = by_two;
   rest = [];
   place = refl;
   number_is = refl;

@@ -18,11 +18,11 @@ use Rattle.refutation.specs.declared.literal.Literal.{Literal}
 
 -- the clause of the line is true of the selection
 abbrev pub IsLineTrue : Universe → (ℕ → Bool) → Line → Type 0
-IsLineTrue u selection found = IsClauseTrue selection (IsInLine u found)
+IsLineTrue u selection line = IsClauseTrue selection (IsInLine u line)
 
 -- the clause of every premise is true of the selection
 abbrev pub AllPremisesTrue : Universe → (ℕ → Bool) → Type 0
-AllPremisesTrue u selection = (found : Premise) → IsPremise u found → IsClauseTrue selection (IsInPremise u found)
+AllPremisesTrue u selection = (premise : Premise) → IsPremise u premise → IsClauseTrue selection (IsInPremise u premise)
 
 -- a derived line that follows from lines which are true of a selection is true of it
 abbrev pub LinesFollow : Type 0
@@ -73,8 +73,8 @@ EmptyListIsGood = (u : Universe) → AreGoodLines u []
 
 -- good lines and one that is good behind them are good
 abbrev pub GoodLinesGrow : Type 0
-GoodLinesGrow = (u : Universe) (earlier : List Line) (found : Line) → AreGoodLines u earlier → IsGoodLine u earlier found
-    → AreGoodLines u (earlier ++ found ∷ [])
+GoodLinesGrow = (u : Universe) (earlier : List Line) (line : Line) → AreGoodLines u earlier → IsGoodLine u earlier line
+    → AreGoodLines u (earlier ++ line ∷ [])
 
 -- lines have one answer: where a number is that of the first bad line, they aren't accepted, and no other number is
 abbrev pub OneAnswer : Type 0
@@ -84,5 +84,5 @@ OneAnswer = (u : Universe) (lines : List Line) (number : ℕ) → IsFirstBad u l
 -- a line follows from earlier ones exactly where it follows from the lists of their literals
 abbrev pub FollowsFromLists : Type 0
 FollowsFromLists = (u : Universe) (earlier : List Line) (clauses : List (List Literal)) (literals : List Literal) (hints : List ℕ)
-    → AllZip (λ found clause. IsListOf (IsInLine u found) clause) earlier clauses
+    → AllZip (λ line clause. IsListOf (IsInLine u line) clause) earlier clauses
     → IsGoodLine u earlier (line.Derived literals hints) ↔ EndsFalse Contains clauses (Contains literals) hints

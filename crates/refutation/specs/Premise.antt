@@ -29,7 +29,7 @@ Selects u P (literal.Unselected number) = ⊥
 
 -- the literal says that the one pair isn't selected, or that the other isn't
 abbrev pub IsEitherOut : ℕ → ℕ → Literal → Type 0
-IsEitherOut number other found = (found ≡ literal.Unselected number) ⊎ (found ≡ literal.Unselected other)
+IsEitherOut number other disjunct = (disjunct ≡ literal.Unselected number) ⊎ (disjunct ≡ literal.Unselected other)
 
 -- the first package conflicts with the second, which has another name (Policy 7.4)
 abbrev pub ConflictsWithOther : Pkg → Pkg → Type 0
@@ -79,12 +79,12 @@ SpeaksOf u goal.NoRemove pkg = ⊥
 
 -- the literal is what the goal says of the pair: not selected by a remove or purge, selected by an upgrade of all
 abbrev pub IsSaidBy : Goal → ℕ → Literal → Type 0
-IsSaidBy (goal.Install name restriction) number found = ⊥
-IsSaidBy (goal.Remove name) number found = found ≡ literal.Unselected number
-IsSaidBy (goal.Purge name) number found = found ≡ literal.Unselected number
-IsSaidBy (goal.Upgrade name) number found = ⊥
-IsSaidBy goal.UpgradeAll number found = found ≡ literal.Selected number
-IsSaidBy goal.NoRemove number found = ⊥
+IsSaidBy (goal.Install name restriction) number disjunct = ⊥
+IsSaidBy (goal.Remove name) number disjunct = disjunct ≡ literal.Unselected number
+IsSaidBy (goal.Purge name) number disjunct = disjunct ≡ literal.Unselected number
+IsSaidBy (goal.Upgrade name) number disjunct = ⊥
+IsSaidBy goal.UpgradeAll number disjunct = disjunct ≡ literal.Selected number
+IsSaidBy goal.NoRemove number disjunct = ⊥
 
 -- the package is the version that stands of a held name
 abbrev pub IsHeldVersion : Universe → Pkg → Type 0
@@ -97,7 +97,7 @@ StandsAtStart u name = Any (λ start. (start.name ≡ name) × MatchOption start
 
 -- the universe has what the premise speaks of
 abbrev pub IsPremise : Universe → Premise → Type 0
-IsPremise u (premise.Same number other) = (number < other) × PairsAre u number other (λ pkg found. found.name ≡ pkg.name)
+IsPremise u (premise.Same number other) = (number < other) × PairsAre u number other (λ pkg other_pkg. other_pkg.name ≡ pkg.name)
 IsPremise u (premise.PreDepends number clause) = PairHas u number (λ pkg. HasAt pkg.relations.pre_depends clause (λ _. ⊤))
 IsPremise u (premise.Depends number clause) = PairHas u number (λ pkg. HasAt pkg.relations.depends clause (λ _. ⊤))
 IsPremise u (premise.Conflicts number other) = PairsAre u number other ConflictsWithOther
@@ -110,15 +110,15 @@ IsPremise u (premise.Keep name) = Contains u.goals goal.NoRemove × StandsAtStar
 
 -- the literal is in the clause of the premise
 abbrev pub IsInPremise : Universe → Premise → Literal → Type 0
-IsInPremise u (premise.Same number other) found = IsEitherOut number other found
-IsInPremise u (premise.PreDepends number clause) found = (found ≡ literal.Unselected number)
-    ⊎ Selects u (λ other. PairHas u number (λ pkg. HasAt pkg.relations.pre_depends clause (MatchesSome other))) found
-IsInPremise u (premise.Depends number clause) found = (found ≡ literal.Unselected number)
-    ⊎ Selects u (λ other. PairHas u number (λ pkg. HasAt pkg.relations.depends clause (MatchesSome other))) found
-IsInPremise u (premise.Conflicts number other) found = IsEitherOut number other found
-IsInPremise u (premise.Breaks number other) found = IsEitherOut number other found
-IsInPremise u (premise.Goal number) found = Selects u (λ pkg. HasAt u.goals number (λ asked. IsAskedBy u asked pkg)) found
-IsInPremise u (premise.GoalOn number pair) found = HasAt u.goals number (λ asked. IsSaidBy asked pair found)
-IsInPremise u (premise.Hold number) found = found ≡ literal.Selected number
-IsInPremise u (premise.Essential name) found = Selects u (λ pkg. pkg.name ≡ name) found
-IsInPremise u (premise.Keep name) found = Selects u (λ pkg. pkg.name ≡ name) found
+IsInPremise u (premise.Same number other) disjunct = IsEitherOut number other disjunct
+IsInPremise u (premise.PreDepends number clause) disjunct = (disjunct ≡ literal.Unselected number)
+    ⊎ Selects u (λ other. PairHas u number (λ pkg. HasAt pkg.relations.pre_depends clause (MatchesSome other))) disjunct
+IsInPremise u (premise.Depends number clause) disjunct = (disjunct ≡ literal.Unselected number)
+    ⊎ Selects u (λ other. PairHas u number (λ pkg. HasAt pkg.relations.depends clause (MatchesSome other))) disjunct
+IsInPremise u (premise.Conflicts number other) disjunct = IsEitherOut number other disjunct
+IsInPremise u (premise.Breaks number other) disjunct = IsEitherOut number other disjunct
+IsInPremise u (premise.Goal number) disjunct = Selects u (λ pkg. HasAt u.goals number (λ asked. IsAskedBy u asked pkg)) disjunct
+IsInPremise u (premise.GoalOn number pair) disjunct = HasAt u.goals number (λ asked. IsSaidBy asked pair disjunct)
+IsInPremise u (premise.Hold number) disjunct = disjunct ≡ literal.Selected number
+IsInPremise u (premise.Essential name) disjunct = Selects u (λ pkg. pkg.name ≡ name) disjunct
+IsInPremise u (premise.Keep name) disjunct = Selects u (λ pkg. pkg.name ≡ name) disjunct

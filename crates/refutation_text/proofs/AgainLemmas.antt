@@ -87,7 +87,7 @@ literals_again earlier [] words h = ap (λ (literals : List Literal). hinted_lin
 literals_again earlier (literal ∷ later) words h =
     let both = and_parts (is_literal literal) (list_all is_literal later) h in
     rw (literal_no_colon literal both.0)
-    (ap (option_and_then (λ found. derived_from (earlier ++ found ∷ []) (map literal_word later ++ codes ":" ∷ words))) (literal_again literal both.0)
+    (ap (option_and_then (λ one. derived_from (earlier ++ one ∷ []) (map literal_word later ++ codes ":" ∷ words))) (literal_again literal both.0)
     ∙ literals_again (earlier ++ literal ∷ []) later words both.1
     ∙ ap (λ (literals : List Literal). hinted_line literals words) (append_assoc earlier (literal ∷ []) later))
 
@@ -105,13 +105,13 @@ derived_again literals hints h =
 -- Lines
 
 -- the words of a line are read as it
-words_again : (found : Line) → is_writable found ≡ true → is_named found ≡ true → line_of_words (words_of found) ≡ Some found
+words_again : (line : Line) → is_writable line ≡ true → is_named line ≡ true → line_of_words (words_of line) ≡ Some line
 words_again (line.Premise premise) h named = premise_again premise h named
 words_again (line.Derived literals hints) h named = derived_again literals hints h
 
 -- the words of a line with spaces between them
 abbrev joined_words : Line → List ℕ
-joined_words found = join_with_byte 32 (words_of found)
+joined_words line = join_with_byte 32 (words_of line)
 
 premise_parted : (premise : Premise) → AreFree 32 (premise_words premise) → parts_at 32 (join_with_byte 32 (premise_words premise)) ≡ premise_words premise
 premise_parted (Same pair other) free = joined_parts 32 (codes "same") (decimal pair ∷ decimal other ∷ []) free
@@ -125,46 +125,46 @@ premise_parted (Hold pair) free = joined_parts 32 (codes "hold") (decimal pair �
 premise_parted (Essential name) free = joined_parts 32 (codes "essential") (name ∷ []) free
 premise_parted (Keep name) free = joined_parts 32 (codes "keep") (name ∷ []) free
 
-words_parted : (found : Line) → AreFree 32 (words_of found) → parts_at 32 (joined_words found) ≡ words_of found
+words_parted : (line : Line) → AreFree 32 (words_of line) → parts_at 32 (joined_words line) ≡ words_of line
 words_parted (line.Premise premise) free = premise_parted premise free
 words_parted (line.Derived literals hints) free = joined_parts 32 (codes "derive") (map literal_word literals ++ codes ":" ∷ map decimal hints) free
 
 -- the text of a line is read as it
-line_again : (found : Line) → is_writable found ≡ true → is_named found ≡ true → line_of (joined_words found) ≡ Some found
+line_again : (line : Line) → is_writable line ≡ true → is_named line ≡ true → line_of (joined_words line) ≡ Some line
 unfolding line_of
-line_again found h named = ap line_of_words (words_parted found (words_free 32 found space_outside h named)) ∙ words_again found h named
+line_again line h named = ap line_of_words (words_parted line (words_free 32 line space_outside h named)) ∙ words_again line h named
 
-line_free : (found : Line) → is_writable found ≡ true → is_named found ≡ true → IsFree 10 (joined_words found)
-line_free found h named = joined_free 10 32 (words_of found) refl (words_free 10 found newline_outside h named)
+line_free : (line : Line) → is_writable line ≡ true → is_named line ≡ true → IsFree 10 (joined_words line)
+line_free line h named = joined_free 10 32 (words_of line) refl (words_free 10 line newline_outside h named)
 
 -- a line and its newline before other bytes
-line_parted : (found : Line) (rest : List ℕ) → is_writable found ≡ true → is_named found ≡ true
-    → parts_at 10 (line_text found ++ rest) ≡ joined_words found ∷ parts_at 10 rest
+line_parted : (line : Line) (rest : List ℕ) → is_writable line ≡ true → is_named line ≡ true
+    → parts_at 10 (line_text line ++ rest) ≡ joined_words line ∷ parts_at 10 rest
 unfolding line_text
-line_parted found rest h named =
-    ap (parts_at 10) (append_assoc (joined_words found) (10 ∷ []) rest)
-    ∙ slice_split_at (λ b. eqb b 10) (joined_words found) 10 rest (line_free found h named) refl
+line_parted line rest h named =
+    ap (parts_at 10) (append_assoc (joined_words line) (10 ∷ []) rest)
+    ∙ slice_split_at (λ b. eqb b 10) (joined_words line) 10 rest (line_free line h named) refl
 
-line_in_place : (number : ℕ) (found : Line) → is_writable found ≡ true → is_named found ≡ true → not (is_wide found) ≡ true → number ≤ LINES
-    → line_in_text number (joined_words found) ≡ Ok found
-line_in_place number found h named narrow within =
-    ap (numbered_line number) (line_again found h named) ∙ rw (le-ltb LINES number within, not-true (is_wide found) narrow) refl
+line_in_place : (number : ℕ) (line : Line) → is_writable line ≡ true → is_named line ≡ true → not (is_wide line) ≡ true → number ≤ LINES
+    → line_in_text number (joined_words line) ≡ Ok line
+line_in_place number line h named narrow within =
+    ap (numbered_line number) (line_again line h named) ∙ rw (le-ltb LINES number within, not-true (is_wide line) narrow) refl
 
 -- the texts of lines are read as them
-lines_again : (number : ℕ) (lines : List Line) → IsWritable lines → list_all is_named lines ≡ true → list_all (λ found. not (is_wide found)) lines ≡ true
+lines_again : (number : ℕ) (lines : List Line) → IsWritable lines → list_all is_named lines ≡ true → list_all (λ line. not (is_wide line)) lines ≡ true
     → number + length lines ≤ LINES + 1 → read_lines number (parts_at 10 (flat_map line_text lines)) ≡ Ok lines
 lines_again number [] h named narrow within = refl
-lines_again number (found ∷ later) h named narrow within =
-    let writable = and_parts (is_writable found) (list_all is_writable later) h in
-    let names = and_parts (is_named found) (list_all is_named later) named in
-    let widths = and_parts (not (is_wide found)) (list_all (λ other. not (is_wide other)) later) narrow in
+lines_again number (line ∷ later) h named narrow within =
+    let writable = and_parts (is_writable line) (list_all is_writable later) h in
+    let names = and_parts (is_named line) (list_all is_named later) named in
+    let widths = and_parts (not (is_wide line)) (list_all (λ other. not (is_wide other)) later) narrow in
     let rest = flat_map line_text later in
     let here : number ≤ LINES = omega arith in
     let left : (number + 1) + length later ≤ LINES + 1 = omega arith in
-    ap (read_lines number) (line_parted found rest writable.0 names.0)
-    ∙ read_lines_more number (joined_words found) rest
-    ∙ ap (λ read. put_line read (read_lines (number + 1) (parts_at 10 rest))) (line_in_place number found writable.0 names.0 widths.0 here)
-    ∙ ap (put_line (Ok found)) (lines_again (number + 1) later writable.1 names.1 widths.1 left)
+    ap (read_lines number) (line_parted line rest writable.0 names.0)
+    ∙ read_lines_more number (joined_words line) rest
+    ∙ ap (λ read. put_line read (read_lines (number + 1) (parts_at 10 rest))) (line_in_place number line writable.0 names.0 widths.0 here)
+    ∙ ap (put_line (Ok line)) (lines_again (number + 1) later writable.1 names.1 widths.1 left)
 
 -- Texts
 

@@ -74,7 +74,7 @@ premise_free byte (Hold pair) outside h named = (letters_free byte (codes "hold"
 premise_free byte (Essential name) outside h named = (letters_free byte (codes "essential") outside refl, (name_free byte name outside named, tt))
 premise_free byte (Keep name) outside h named = (letters_free byte (codes "keep") outside refl, (name_free byte name outside named, tt))
 
-pub words_free : (byte : ℕ) (found : Line) → IsOutside byte → is_writable found ≡ true → is_named found ≡ true → AreFree byte (words_of found)
+pub words_free : (byte : ℕ) (line : Line) → IsOutside byte → is_writable line ≡ true → is_named line ≡ true → AreFree byte (words_of line)
 words_free byte (line.Premise premise) outside h named = premise_free byte premise outside h named
 words_free byte (line.Derived literals hints) outside h named =
     let all = and_parts (list_all is_literal literals && list_all (is_number NUMBER) hints) (are_distinct literals && is_some_hint hints) h in

@@ -33,8 +33,8 @@ map-push (y ∷ literals) x = ap (λ (keys : List ℕ). literal_key y ∷ keys) 
 -- a literal whose key is kept is among those so far
 pub repeated : (literals : List Literal) (i : ℕ) (x : Literal) (keys : List ℕ) → drop i literals ≡ x ∷ drop (i + 1) literals
     → keys ≡ map literal_key (take i literals) → list_any (eqb (literal_key x)) keys ≡ true → are_new (take i literals) (drop i literals) ≡ false
-repeated literals i x keys here kept found =
-    let among : list_any (is_same x) (take i literals) ≡ true = any_key x (take i literals) ∙ ap (list_any (eqb (literal_key x))) (sym kept) ∙ found in
+repeated literals i x keys here kept is =
+    let among : list_any (is_same x) (take i literals) ≡ true = any_key x (take i literals) ∙ ap (list_any (eqb (literal_key x))) (sym kept) ∙ is in
     ap (are_new (take i literals)) here ∙ rw among refl
 
 -- a literal whose key isn't kept is new
@@ -42,15 +42,15 @@ pub fresh : (literals : List Literal) (i : ℕ) (x : Literal) (keys : List ℕ) 
     → take (i + 1) literals ≡ take i literals ++ x ∷ []
     → keys ≡ map literal_key (take i literals) → list_any (eqb (literal_key x)) keys ≡ false
     → are_new (take (i + 1) literals) (drop (i + 1) literals) ≡ are_new (take i literals) (drop i literals)
-fresh literals i x keys here more kept found =
-    let among : list_any (is_same x) (take i literals) ≡ false = any_key x (take i literals) ∙ ap (list_any (eqb (literal_key x))) (sym kept) ∙ found in
+fresh literals i x keys here more kept is =
+    let among : list_any (is_same x) (take i literals) ≡ false = any_key x (take i literals) ∙ ap (list_any (eqb (literal_key x))) (sym kept) ∙ is in
     sym (ap (are_new (take i literals)) here ∙ rw among (ap (λ (earlier : List Literal). are_new earlier (drop (i + 1) literals)) (sym more)))
 
 pub kept_more : (literals : List Literal) (i : ℕ) (x : Literal) (keys after : List ℕ) → take (i + 1) literals ≡ take i literals ++ x ∷ []
     → keys ≡ map literal_key (take i literals) → list_any (eqb (literal_key x)) keys ≡ false
     → after ≡ insert_key eqb keys (literal_key x) → after ≡ map literal_key (take (i + 1) literals)
-kept_more literals i x keys after more kept found put =
-    put ∙ rw found (ap (λ (so_far : List ℕ). so_far ++ literal_key x ∷ []) kept ∙ sym (map-push (take i literals) x) ∙ ap (map literal_key) (sym more))
+kept_more literals i x keys after more kept is put =
+    put ∙ rw is (ap (λ (so_far : List ℕ). so_far ++ literal_key x ∷ []) kept ∙ sym (map-push (take i literals) x) ∙ ap (map literal_key) (sym more))
 
 -- what is said of whether a key was put
 pub was_there : (put there : Bool) → put ≡ not there → put ≡ false → there ≡ true

@@ -16,10 +16,10 @@ pub read_lines_more : (number : ℕ) (line rest : List ℕ) → read_lines numbe
 read_lines_more number line rest = let some = parts_some NEWLINE rest in rw some.2 refl
 
 -- a line that is put before others stands behind those so far
-pub put_lines_more : (lines : List Line) (found : Line) (later : Result (List Line) RefutationFault)
-    → put_lines (lines ++ found ∷ []) later ≡ put_lines lines (put_line (Ok found) later)
-put_lines_more lines found (Ok later) = ap (λ behind. Ok behind) (append_assoc lines (found ∷ []) later)
-put_lines_more lines found (Err fault) = refl
+pub put_lines_more : (lines : List Line) (line : Line) (later : Result (List Line) RefutationFault)
+    → put_lines (lines ++ line ∷ []) later ≡ put_lines lines (put_line (Ok line) later)
+put_lines_more lines line (Ok later) = ap (λ behind. Ok behind) (append_assoc lines (line ∷ []) later)
+put_lines_more lines line (Err fault) = refl
 
 -- the refusal of a line is the refusal of all
 pub line_refused : (e : RefutationError) (lines : List Line) (read : Result Line RefutationFault) (later : Result (List Line) RefutationFault)
@@ -35,12 +35,12 @@ lines_split lines number text line rest split =
     ap (put_lines lines) (sym (ap (read_lines number) split.parts ∙ read_lines_more number line rest))
 
 -- a line is read
-pub lines_read : (lines : List Line) (found : Line) (number : ℕ) (text line rest : List ℕ) → SplitsPart NEWLINE text line rest
-    → line_in_text number line ≡ Ok found
-    → put_lines (lines ++ found ∷ []) (read_lines (number + 1) (parts_at NEWLINE rest)) ≡ put_lines lines (read_lines number (parts_at NEWLINE text))
-lines_read lines found number text line rest split read =
+pub lines_read : (lines : List Line) (line_read : Line) (number : ℕ) (text line rest : List ℕ) → SplitsPart NEWLINE text line rest
+    → line_in_text number line ≡ Ok line_read
+    → put_lines (lines ++ line_read ∷ []) (read_lines (number + 1) (parts_at NEWLINE rest)) ≡ put_lines lines (read_lines number (parts_at NEWLINE text))
+lines_read lines line_read number text line rest split read =
     let later = read_lines (number + 1) (parts_at NEWLINE rest) in
-    put_lines_more lines found later ∙ ap (λ first. put_lines lines (put_line first later)) (sym read)
+    put_lines_more lines line_read later ∙ ap (λ first. put_lines lines (put_line first later)) (sym read)
     ∙ lines_split lines number text line rest split
 
 -- a line is refused, and so all is

@@ -105,14 +105,14 @@ literal_is (b ∷ later) literal h = elim (cases_Bool (eqb b 45)) [
   | inl minus ↦ unselected (number_in PAIR later) refl (rw minus at h) minus
   | inr other ↦ selected (number_in PAIR (b ∷ later)) refl (rw other at h)
 ] where
-  unselected : (found : Option ℕ) → number_in PAIR later ≡ found → option_map (λ pair. Unselected pair) found ≡ Some literal → eqb b 45 ≡ true
+  unselected : (number : Option ℕ) → number_in PAIR later ≡ number → option_map (λ pair. Unselected pair) number ≡ Some literal → eqb b 45 ≡ true
       → b ∷ later ≡ literal_word literal
   unselected None e g minus = cc
   unselected (Some pair) e g minus =
       let same : Unselected pair ≡ literal = cc in
       ap (λ (first : ℕ). first ∷ later) (eqb-true b 45 minus) ∙ ap (λ (digits : List ℕ). 45 ∷ digits) (number_is PAIR later pair pair_small e) ∙ ap literal_word same
 
-  selected : (found : Option ℕ) → number_in PAIR (b ∷ later) ≡ found → option_map (λ pair. Selected pair) found ≡ Some literal
+  selected : (number : Option ℕ) → number_in PAIR (b ∷ later) ≡ number → option_map (λ pair. Selected pair) number ≡ Some literal
       → b ∷ later ≡ literal_word literal
   selected None e g = cc
   selected (Some pair) e g =
@@ -121,10 +121,10 @@ literal_is (b ∷ later) literal h = elim (cases_Bool (eqb b 45)) [
 
 digits_again : (pair : ℕ) (digits : List ℕ) → 48 < get_or digits 0 0 → number_in PAIR digits ≡ Some pair → literal_in digits ≡ Some (Selected pair)
 digits_again pair [] first h = absurd (omega arith)
-digits_again pair (b ∷ later) first h = rw (ne_eqb b 45 (λ e. omega arith)) (ap (option_map (λ found. Selected found)) h)
+digits_again pair (b ∷ later) first h = rw (ne_eqb b 45 (λ e. omega arith)) (ap (option_map (λ number. Selected number)) h)
 
 -- a literal that is written is read as itself
 pub literal_again : (literal : Literal) → is_literal literal ≡ true → literal_in (literal_word literal) ≡ Some literal
 literal_again (Selected pair) h =
     digits_again pair (decimal pair) (decimal_is_word PAIR pair pair_small h).first (number_again PAIR pair pair_small h)
-literal_again (Unselected pair) h = ap (option_map (λ found. Unselected found)) (number_again PAIR pair pair_small h)
+literal_again (Unselected pair) h = ap (option_map (λ number. Unselected number)) (number_again PAIR pair pair_small h)

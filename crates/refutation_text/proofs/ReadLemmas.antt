@@ -53,7 +53,7 @@ named_is : (to_premise : List ℕ → Premise) (kind : List ℕ) (words : List (
     → ((name : List ℕ) → premise_words (to_premise name) ≡ kind ∷ name ∷ [])
     → option_map to_premise (only_name words) ≡ Some premise → kind ∷ words ≡ premise_words premise
 named_is to_premise kind words premise spelled h = go (only_name words) refl h where
-  go : (found : Option (List ℕ)) → only_name words ≡ found → option_map to_premise found ≡ Some premise → kind ∷ words ≡ premise_words premise
+  go : (read : Option (List ℕ)) → only_name words ≡ read → option_map to_premise read ≡ Some premise → kind ∷ words ≡ premise_words premise
   go None e g = cc
   go (Some name) e g =
       let same : to_premise name ≡ premise = cc in
@@ -63,7 +63,7 @@ single_is : (most : ℕ) (to_premise : ℕ → Premise) (kind : List ℕ) (words
     → ((number : ℕ) → premise_words (to_premise number) ≡ kind ∷ decimal number ∷ [])
     → option_map to_premise (only_number most words) ≡ Some premise → kind ∷ words ≡ premise_words premise
 single_is most to_premise kind words premise small spelled h = go (only_number most words) refl h where
-  go : (found : Option ℕ) → only_number most words ≡ found → option_map to_premise found ≡ Some premise → kind ∷ words ≡ premise_words premise
+  go : (read : Option ℕ) → only_number most words ≡ read → option_map to_premise read ≡ Some premise → kind ∷ words ≡ premise_words premise
   go None e g = cc
   go (Some number) e g =
       let same : to_premise number ≡ premise = cc in
@@ -74,7 +74,7 @@ double_is : (most most_other : ℕ) (to_premise : ℕ → ℕ → Premise) (kind
     → ((number other : ℕ) → premise_words (to_premise number other) ≡ kind ∷ decimal number ∷ decimal other ∷ [])
     → option_map (λ (two : ℕ × ℕ). to_premise two.0 two.1) (two_numbers most most_other words) ≡ Some premise → kind ∷ words ≡ premise_words premise
 double_is most most_other to_premise kind words premise small small_other spelled h = go (two_numbers most most_other words) refl h where
-  go : (found : Option (ℕ × ℕ)) → two_numbers most most_other words ≡ found → option_map (λ (two : ℕ × ℕ). to_premise two.0 two.1) found ≡ Some premise
+  go : (read : Option (ℕ × ℕ)) → two_numbers most most_other words ≡ read → option_map (λ (two : ℕ × ℕ). to_premise two.0 two.1) read ≡ Some premise
       → kind ∷ words ≡ premise_words premise
   go None e g = cc
   go (Some two) e g =
@@ -84,8 +84,8 @@ double_is most most_other to_premise kind words premise small small_other spelle
 
 goal_is : (words : List (List ℕ)) (premise : Premise) → goal_of words ≡ Some premise → codes "goal" ∷ words ≡ premise_words premise
 goal_is words premise h = go (only_number NUMBER words) refl h where
-  go : (found : Option ℕ) → only_number NUMBER words ≡ found
-      → option_or (option_map (λ goal. Goal goal) found) (option_map (λ (two : ℕ × ℕ). GoalOn two.0 two.1) (two_numbers NUMBER PAIR words)) ≡ Some premise
+  go : (read : Option ℕ) → only_number NUMBER words ≡ read
+      → option_or (option_map (λ goal. Goal goal) read) (option_map (λ (two : ℕ × ℕ). GoalOn two.0 two.1) (two_numbers NUMBER PAIR words)) ≡ Some premise
       → codes "goal" ∷ words ≡ premise_words premise
   go None e g = double_is NUMBER PAIR (λ goal pair. GoalOn goal pair) (codes "goal") words premise number_small pair_small (λ goal pair. refl) g
   go (Some goal) e g =
@@ -167,28 +167,28 @@ premise_is kind words premise h = elim (cases_Bool (bytes_eq kind (codes "essent
 -- Derived lines
 
 -- a hint that is read, before words that are those of the hints
-hint_more : (hints : List ℕ) (hint : ℕ) (word : List ℕ) (later : List (List ℕ)) (found : List ℕ) → word ≡ decimal hint
-    → map decimal (hints ++ hint ∷ []) ++ later ≡ map decimal found → map decimal hints ++ word ∷ later ≡ map decimal found
-hint_more hints hint word later found is behind =
+hint_more : (hints : List ℕ) (hint : ℕ) (word : List ℕ) (later : List (List ℕ)) (all : List ℕ) → word ≡ decimal hint
+    → map decimal (hints ++ hint ∷ []) ++ later ≡ map decimal all → map decimal hints ++ word ∷ later ≡ map decimal all
+hint_more hints hint word later all is behind =
     ap (λ (w : List ℕ). map decimal hints ++ w ∷ later) is
     ∙ sym (append_assoc (map decimal hints) (decimal hint ∷ []) later)
     ∙ ap (λ (ws : List (List ℕ)). ws ++ later) (sym (map_push decimal hints hint))
     ∙ behind
 
 -- what is read as hints is the hints so far and the words
-hints_are : (hints : List ℕ) (words : List (List ℕ)) (found : List ℕ) → hints_from hints words ≡ Some found → map decimal hints ++ words ≡ map decimal found
-hints_are hints [] found h = let same : hints ≡ found = cc in append-nil (map decimal hints) ∙ ap (map decimal) same
-hints_are hints (word ∷ later) found h = go (λ hint g. hints_are (hints ++ hint ∷ []) later found g) (number_in NUMBER word) refl h where
-  go : ((hint : ℕ) → hints_from (hints ++ hint ∷ []) later ≡ Some found → map decimal (hints ++ hint ∷ []) ++ later ≡ map decimal found)
-      → (read : Option ℕ) → number_in NUMBER word ≡ read → option_and_then (λ hint. hints_from (hints ++ hint ∷ []) later) read ≡ Some found
-      → map decimal hints ++ word ∷ later ≡ map decimal found
+hints_are : (hints : List ℕ) (words : List (List ℕ)) (all : List ℕ) → hints_from hints words ≡ Some all → map decimal hints ++ words ≡ map decimal all
+hints_are hints [] all h = let same : hints ≡ all = cc in append-nil (map decimal hints) ∙ ap (map decimal) same
+hints_are hints (word ∷ later) all h = go (λ hint g. hints_are (hints ++ hint ∷ []) later all g) (number_in NUMBER word) refl h where
+  go : ((hint : ℕ) → hints_from (hints ++ hint ∷ []) later ≡ Some all → map decimal (hints ++ hint ∷ []) ++ later ≡ map decimal all)
+      → (read : Option ℕ) → number_in NUMBER word ≡ read → option_and_then (λ hint. hints_from (hints ++ hint ∷ []) later) read ≡ Some all
+      → map decimal hints ++ word ∷ later ≡ map decimal all
   go behind None e g = cc
-  go behind (Some hint) e g = hint_more hints hint word later found (number_is NUMBER word hint number_small e) (behind hint g)
+  go behind (Some hint) e g = hint_more hints hint word later all (number_is NUMBER word hint number_small e) (behind hint g)
 
-derived_line_is : (literals : List Literal) (hints : List ℕ) (found : Line) → derived_line literals hints ≡ Some found
-    → words_of (line.Derived literals hints) ≡ words_of found
-derived_line_is literals hints found h = elim (cases_Bool (is_some_hint hints && are_distinct literals)) [
-  | inl e ↦ let same : line.Derived literals hints ≡ found = cc (rw e at h) in ap words_of same
+derived_line_is : (literals : List Literal) (hints : List ℕ) (line_read : Line) → derived_line literals hints ≡ Some line_read
+    → words_of (line.Derived literals hints) ≡ words_of line_read
+derived_line_is literals hints line_read h = elim (cases_Bool (is_some_hint hints && are_distinct literals)) [
+  | inl e ↦ let same : line.Derived literals hints ≡ line_read = cc (rw e at h) in ap words_of same
   | inr e ↦ cc (rw e at h)
 ]
 
@@ -196,73 +196,73 @@ derived_line_is literals hints found h = elim (cases_Bool (is_some_hint hints &&
 abbrev derived_words : List Literal → List (List ℕ) → List (List ℕ)
 derived_words literals behind = codes "derive" ∷ map literal_word literals ++ behind
 
-hinted_is : (literals : List Literal) (words : List (List ℕ)) (found : Line) → hinted_line literals words ≡ Some found
-    → derived_words literals (codes ":" ∷ words) ≡ words_of found
-hinted_is literals words found h = go (hints_from [] words) refl h where
-  go : (read : Option (List ℕ)) → hints_from [] words ≡ read → option_and_then (λ hints. derived_line literals hints) read ≡ Some found
-      → derived_words literals (codes ":" ∷ words) ≡ words_of found
+hinted_is : (literals : List Literal) (words : List (List ℕ)) (line_read : Line) → hinted_line literals words ≡ Some line_read
+    → derived_words literals (codes ":" ∷ words) ≡ words_of line_read
+hinted_is literals words line_read h = go (hints_from [] words) refl h where
+  go : (read : Option (List ℕ)) → hints_from [] words ≡ read → option_and_then (λ hints. derived_line literals hints) read ≡ Some line_read
+      → derived_words literals (codes ":" ∷ words) ≡ words_of line_read
   go None e g = cc
   go (Some hints) e g =
-      ap (λ (ws : List (List ℕ)). derived_words literals (codes ":" ∷ ws)) (hints_are [] words hints e) ∙ derived_line_is literals hints found g
+      ap (λ (ws : List (List ℕ)). derived_words literals (codes ":" ∷ ws)) (hints_are [] words hints e) ∙ derived_line_is literals hints line_read g
 
-literal_more : (literals : List Literal) (literal : Literal) (word : List ℕ) (later : List (List ℕ)) (found : Line) → word ≡ literal_word literal
-    → derived_words (literals ++ literal ∷ []) later ≡ words_of found → derived_words literals (word ∷ later) ≡ words_of found
-literal_more literals literal word later found is behind =
+literal_more : (literals : List Literal) (literal : Literal) (word : List ℕ) (later : List (List ℕ)) (line_read : Line) → word ≡ literal_word literal
+    → derived_words (literals ++ literal ∷ []) later ≡ words_of line_read → derived_words literals (word ∷ later) ≡ words_of line_read
+literal_more literals literal word later line_read is behind =
     ap (λ (w : List ℕ). derived_words literals (w ∷ later)) is
     ∙ ap (λ (ws : List (List ℕ)). codes "derive" ∷ ws) (sym (append_assoc (map literal_word literals) (literal_word literal ∷ []) later))
     ∙ ap (λ (ws : List (List ℕ)). codes "derive" ∷ ws ++ later) (sym (map_push literal_word literals literal))
     ∙ behind
 
-derived_is : (literals : List Literal) (words : List (List ℕ)) (found : Line) → derived_from literals words ≡ Some found → derived_words literals words ≡ words_of found
-derived_is literals [] found h = cc
-derived_is literals (word ∷ later) found h = elim (cases_Bool (bytes_eq word (codes ":"))) [
-  | inl e ↦ ap (λ (w : List ℕ). derived_words literals (w ∷ later)) (bytes_eq-true word (codes ":") e) ∙ hinted_is literals later found (rw e at h)
-  | inr e ↦ go (λ literal g. derived_is (literals ++ literal ∷ []) later found g) (literal_in word) refl (rw e at h)
+derived_is : (literals : List Literal) (words : List (List ℕ)) (line_read : Line) → derived_from literals words ≡ Some line_read → derived_words literals words ≡ words_of line_read
+derived_is literals [] line_read h = cc
+derived_is literals (word ∷ later) line_read h = elim (cases_Bool (bytes_eq word (codes ":"))) [
+  | inl e ↦ ap (λ (w : List ℕ). derived_words literals (w ∷ later)) (bytes_eq-true word (codes ":") e) ∙ hinted_is literals later line_read (rw e at h)
+  | inr e ↦ go (λ literal g. derived_is (literals ++ literal ∷ []) later line_read g) (literal_in word) refl (rw e at h)
 ] where
-  go : ((literal : Literal) → derived_from (literals ++ literal ∷ []) later ≡ Some found → derived_words (literals ++ literal ∷ []) later ≡ words_of found)
-      → (read : Option Literal) → literal_in word ≡ read → option_and_then (λ literal. derived_from (literals ++ literal ∷ []) later) read ≡ Some found
-      → derived_words literals (word ∷ later) ≡ words_of found
+  go : ((literal : Literal) → derived_from (literals ++ literal ∷ []) later ≡ Some line_read → derived_words (literals ++ literal ∷ []) later ≡ words_of line_read)
+      → (read : Option Literal) → literal_in word ≡ read → option_and_then (λ literal. derived_from (literals ++ literal ∷ []) later) read ≡ Some line_read
+      → derived_words literals (word ∷ later) ≡ words_of line_read
   go behind None e g = cc
-  go behind (Some literal) e g = literal_more literals literal word later found (literal_is word literal e) (behind literal g)
+  go behind (Some literal) e g = literal_more literals literal word later line_read (literal_is word literal e) (behind literal g)
 
 -- Lines
 
-line_by_is : (kind : List ℕ) (words : List (List ℕ)) (found : Line) → line_by kind words ≡ Some found → kind ∷ words ≡ words_of found
-line_by_is kind words found h = elim (cases_Bool (bytes_eq kind (codes "derive"))) [
-  | inl e ↦ ap (λ (k : List ℕ). k ∷ words) (bytes_eq-true kind (codes "derive") e) ∙ derived_is [] words found (rw e at h)
+line_by_is : (kind : List ℕ) (words : List (List ℕ)) (line_read : Line) → line_by kind words ≡ Some line_read → kind ∷ words ≡ words_of line_read
+line_by_is kind words line_read h = elim (cases_Bool (bytes_eq kind (codes "derive"))) [
+  | inl e ↦ ap (λ (k : List ℕ). k ∷ words) (bytes_eq-true kind (codes "derive") e) ∙ derived_is [] words line_read (rw e at h)
   | inr e ↦ go (premise_by kind words) refl (rw e at h)
 ] where
-  go : (read : Option Premise) → premise_by kind words ≡ read → option_map (λ premise. line.Premise premise) read ≡ Some found → kind ∷ words ≡ words_of found
+  go : (read : Option Premise) → premise_by kind words ≡ read → option_map (λ premise. line.Premise premise) read ≡ Some line_read → kind ∷ words ≡ words_of line_read
   go None e g = cc
   go (Some premise) e g =
-      let same : line.Premise premise ≡ found = cc in
+      let same : line.Premise premise ≡ line_read = cc in
       premise_is kind words premise e ∙ ap words_of same
 
-words_are : (words : List (List ℕ)) (found : Line) → line_of_words words ≡ Some found → words ≡ words_of found
-words_are [] found h = cc
-words_are (kind ∷ words) found h = line_by_is kind words found h
+words_are : (words : List (List ℕ)) (line_read : Line) → line_of_words words ≡ Some line_read → words ≡ words_of line_read
+words_are [] line_read h = cc
+words_are (kind ∷ words) line_read h = line_by_is kind words line_read h
 
 -- a text that is read as a line is the line's
-line_is : (text : List ℕ) (found : Line) → line_of text ≡ Some found → text ++ 10 ∷ [] ≡ line_text found
+line_is : (text : List ℕ) (line_read : Line) → line_of text ≡ Some line_read → text ++ 10 ∷ [] ≡ line_text line_read
 unfolding line_of line_text
-line_is text found h = ap (λ (written : List ℕ). written ++ 10 ∷ [])
-    (sym (join_with_byte-slice_split 32 text) ∙ ap (join_with_byte 32) (words_are (parts_at 32 text) found h))
+line_is text line_read h = ap (λ (written : List ℕ). written ++ 10 ∷ [])
+    (sym (join_with_byte-slice_split 32 text) ∙ ap (join_with_byte 32) (words_are (parts_at 32 text) line_read h))
 
-numbered_line_is : (number : ℕ) (read : Option Line) (found : Line) → numbered_line number read ≡ Ok found → read ≡ Some found
-numbered_line_is number None found h = cc
-numbered_line_is number (Some other) found h = elim (cases_Bool (ltb LINES number || is_wide other)) [ inl e ↦ cc (rw e at h) | inr e ↦ cc (rw e at h) ]
+numbered_line_is : (number : ℕ) (read : Option Line) (line_read : Line) → numbered_line number read ≡ Ok line_read → read ≡ Some line_read
+numbered_line_is number None line_read h = cc
+numbered_line_is number (Some other) line_read h = elim (cases_Bool (ltb LINES number || is_wide other)) [ inl e ↦ cc (rw e at h) | inr e ↦ cc (rw e at h) ]
 
 -- the line that was read, and the lines behind it
 record Puts (read : Result Line RefutationFault) (later : Result (List Line) RefutationFault) (lines : List Line) : Type 0 where
-  found : Line
+  line_read : Line
   more : List Line
-  here : read ≡ Ok found
+  here : read ≡ Ok line_read
   behind : later ≡ Ok more
-  all : lines ≡ found ∷ more
+  all : lines ≡ line_read ∷ more
 
 puts : (read : Result Line RefutationFault) (later : Result (List Line) RefutationFault) (lines : List Line) → put_line read later ≡ Ok lines → Puts read later lines
-puts (Ok found) (Ok more) lines h = record { found = found; more = more; here = refl; behind = refl; all = cc }
-puts (Ok found) (Err fault) lines h = cc
+puts (Ok line_read) (Ok more) lines h = record { line_read = line_read; more = more; here = refl; behind = refl; all = cc }
+puts (Ok line_read) (Err fault) lines h = cc
 puts (Err fault) later lines h = cc
 
 end_is : (number : ℕ) (last : List ℕ) (lines : List Line) → read_end number last ≡ Ok lines → last ≡ flat_map line_text lines
@@ -276,10 +276,10 @@ lines_are number (last ∷ []) lines h = end_is number last lines h
 lines_are number (text ∷ next ∷ later) lines h =
     let put = puts (line_in_text number text) (read_lines (number + 1) (next ∷ later)) lines h in
     let behind = lines_are (number + 1) (next ∷ later) put.more put.behind in
-    let here = line_is text put.found (numbered_line_is number (line_of text) put.found put.here) in
+    let here = line_is text put.line_read (numbered_line_is number (line_of text) put.line_read put.here) in
     sym (append_assoc text (10 ∷ []) (join_with_byte 10 (next ∷ later)))
     ∙ ap (λ (written : List ℕ). written ++ join_with_byte 10 (next ∷ later)) here
-    ∙ ap (λ (written : List ℕ). line_text put.found ++ written) behind
+    ∙ ap (λ (written : List ℕ). line_text put.line_read ++ written) behind
     ∙ sym (ap (flat_map line_text) put.all)
 
 -- Texts

@@ -25,7 +25,7 @@ literal_key (Unselected pair) = pair * 2 + 1
 -- none of the literals is among those before it, nor among these earlier ones
 abbrev pub are_new : List Literal → List Literal → Bool
 are_new earlier [] = true
-are_new earlier (found ∷ later) = not (list_any (is_same found) earlier) && are_new (earlier ++ found ∷ []) later
+are_new earlier (literal ∷ later) = not (list_any (is_same literal) earlier) && are_new (earlier ++ literal ∷ []) later
 
 -- no literal stands there twice
 abbrev pub are_distinct : List Literal → Bool
@@ -54,4 +54,4 @@ abbrev pub derived_from : List Literal → List (List ℕ) → Option Line
 derived_from literals [] = None
 derived_from literals (word ∷ later) =
     if bytes_eq word (codes ":") then hinted_line literals later
-    else option_and_then (λ found. derived_from (literals ++ found ∷ []) later) (literal_in word)
+    else option_and_then (λ literal. derived_from (literals ++ literal ∷ []) later) (literal_in word)

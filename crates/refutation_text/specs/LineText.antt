@@ -52,7 +52,7 @@ words_of (line.Derived literals hints) = codes "derive" ∷ map literal_word lit
 
 -- the line with its newline
 unfoldable pub line_text : Line → List ℕ
-line_text found = join_with_byte SPACE (words_of found) ++ NEWLINE ∷ []
+line_text line = join_with_byte SPACE (words_of line) ++ NEWLINE ∷ []
 
 -- each number of the premise is in its range
 abbrev pub is_premise_in_range : Premise → Bool

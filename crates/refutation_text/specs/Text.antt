@@ -26,12 +26,12 @@ is_wide (line.Derived literals hints) = nat_lt WIDTH (length literals) || nat_lt
 
 -- this line of this number, unless it is one too many or too wide
 abbrev pub counted_line : ℕ → Line → Result Line RefutationFault
-counted_line number found = if nat_lt LINES number || is_wide found then Err TooLarge else Ok found
+counted_line number line = if nat_lt LINES number || is_wide line then Err TooLarge else Ok line
 
 -- the line of this number, if the text was one: the header stands before the lines
 abbrev pub numbered_line : ℕ → Option Line → Result Line RefutationFault
 numbered_line number None = Err (BadRefutation (number + 1))
-numbered_line number (Some found) = counted_line number found
+numbered_line number (Some line) = counted_line number line
 
 -- the line of this number in its text, which has its newline
 abbrev pub line_in_text : ℕ → List ℕ → Result Line RefutationFault
@@ -44,7 +44,7 @@ put_lines lines (Err fault) = Err fault
 
 -- the line that is read, before those that are read behind it
 abbrev pub put_line : Result Line RefutationFault → Result (List Line) RefutationFault → Result (List Line) RefutationFault
-put_line (Ok found) later = put_lines (found ∷ []) later
+put_line (Ok line) later = put_lines (line ∷ []) later
 put_line (Err fault) later = Err fault
 
 -- behind the last newline nothing may stand: a line that lacks its newline is refused
@@ -81,7 +81,7 @@ IsWritable lines = list_all is_writable lines ≡ true
 pub record IsWithinLimits (lines : List Line) (text : List ℕ) : Type 0 where
   pub small : length text ≤ TEXT_BYTES
   pub few : length lines ≤ LINES
-  pub narrow : list_all (λ found. not (is_wide found)) lines ≡ true
+  pub narrow : list_all (λ line. not (is_wide line)) lines ≡ true
 
 -- the text is read as these lines, if they can be written and are within the limits
 abbrev pub IsReadAs : List Line → List ℕ → Type 0

@@ -19,7 +19,7 @@ fn literal_key(literal: Literal) -> u64
 
 /// Whether no literal stands there twice. Linear in the literals, by hashing.
 pub fn are_distinct(alloc: Global, literals: &[Literal]) -> Result<bool, AllocError>
-    ensures { IfOk result (λ found. found ≡ are_distinct literals.now) }
+    ensures { IfOk result (λ distinct. distinct ≡ are_distinct literals.now) }
 {
     let mut keys = IndexSet::new(alloc);
     for literal in literals {

@@ -84,7 +84,8 @@ pub fn premise_by(
     kind: &[u8],
     words: Option<&[u8]>,
 ) -> Result<Option<Premise>, AllocError>
-    ensures { IfOk result (λ premise. premise ≡ premise_by kind.now (parts_left SPACE words.entry)) }
+    ensures { IfOk result
+        (λ premise. premise ≡ premise_by kind.now (parts_left SPACE words.entry)) }
 {
     if same_text(kind, b"essential") {
         Ok(only_name(alloc, words)?.map(|name| Premise::Essential(name)))

@@ -57,7 +57,8 @@ fn line_in_text(alloc: Global, number: usize, text: &[u8]) -> Result<Line, Refut
 // Behind the last newline nothing may stand.
 fn check_end(number: usize, last: &[u8]) -> Result<(), RefutationFault>
     requires { number + 1 < 2 ^ 64 }
-    ensures { MatchResult result (λ _. Spec.read_end number last.now ≡ Ok []) (λ fault. Spec.read_end number last.now ≡ Err fault) }
+    ensures { MatchResult result (λ _. Spec.read_end number last.now ≡ Ok [])
+        (λ fault. Spec.read_end number last.now ≡ Err fault) }
 {
     match last {
         [] => Ok(()),
@@ -68,7 +69,8 @@ fn check_end(number: usize, last: &[u8]) -> Result<(), RefutationFault>
 // The lines behind the header's.
 fn read_lines(alloc: Global, texts: &[u8]) -> Result<Vec<Line>, RefutationError>
     ensures ok { IfOk result (λ lines. read_lines 1 (parts_at NEWLINE texts.now) ≡ Ok lines.items) }
-    ensures err { IfErr result (λ e. IsRefutationFault e (read_lines 1 (parts_at NEWLINE texts.now))) }
+    ensures err { IfErr result
+        (λ e. IsRefutationFault e (read_lines 1 (parts_at NEWLINE texts.now))) }
 {
     let mut lines = Vec::new(alloc);
     let mut rest = texts;

@@ -45,7 +45,9 @@ fn push_literal(text: &mut Vec<u8>, literal: Literal) -> Result<(), AllocError>
 }
 
 fn push_literals(text: &mut Vec<u8>, literals: &[Literal]) -> Result<(), AllocError>
-    ensures { OnOk result (text.new.items ≡ text.old.items ++ flat_map (λ literal. SPACE ∷ literal_word literal) literals.now) }
+    ensures { OnOk result
+        (text.new.items ≡ text.old.items
+        ++ flat_map (λ literal. SPACE ∷ literal_word literal) literals.now) }
 {
     for literal in literals {
         push_literal(text, *literal)?;
@@ -54,7 +56,8 @@ fn push_literals(text: &mut Vec<u8>, literals: &[Literal]) -> Result<(), AllocEr
 }
 
 fn push_hints(text: &mut Vec<u8>, hints: &[u32]) -> Result<(), AllocError>
-    ensures { OnOk result (text.new.items ≡ text.old.items ++ flat_map (λ hint. SPACE ∷ decimal hint) hints.now) }
+    ensures { OnOk result
+        (text.new.items ≡ text.old.items ++ flat_map (λ hint. SPACE ∷ decimal hint) hints.now) }
 {
     for hint in hints {
         push_number(text, *hint)?;
@@ -64,7 +67,8 @@ fn push_hints(text: &mut Vec<u8>, hints: &[u32]) -> Result<(), AllocError>
 
 // Writes a kind and its number behind the text.
 fn push_single(text: &mut Vec<u8>, kind: &[u8], number: u32) -> Result<(), AllocError>
-    ensures { OnOk result (text.new.items ≡ text.old.items ++ join_with_byte SPACE (kind.now ∷ decimal number ∷ [])) }
+    ensures { OnOk result
+        (text.new.items ≡ text.old.items ++ join_with_byte SPACE (kind.now ∷ decimal number ∷ [])) }
 {
     text.extend_from_slice(kind)?;
     push_number(text, number)
@@ -72,7 +76,9 @@ fn push_single(text: &mut Vec<u8>, kind: &[u8], number: u32) -> Result<(), Alloc
 
 // Writes a kind and its two numbers behind the text.
 fn push_two(text: &mut Vec<u8>, kind: &[u8], number: u32, other: u32) -> Result<(), AllocError>
-    ensures { OnOk result (text.new.items ≡ text.old.items ++ join_with_byte SPACE (kind.now ∷ decimal number ∷ decimal other ∷ [])) }
+    ensures { OnOk result
+        (text.new.items ≡ text.old.items
+        ++ join_with_byte SPACE (kind.now ∷ decimal number ∷ decimal other ∷ [])) }
 {
     push_single(text, kind, number)?;
     push_number(text, other)
@@ -81,7 +87,8 @@ fn push_two(text: &mut Vec<u8>, kind: &[u8], number: u32, other: u32) -> Result<
 // Writes a kind and its name behind the text.
 fn push_named(text: &mut Vec<u8>, kind: &[u8], name: &Name) -> Result<(), AllocError>
     // The two words stand behind the text.
-    ensures written { OnOk result (text.new.items ≡ text.old.items ++ join_with_byte SPACE (kind.now ∷ name.now ∷ [])) }
+    ensures written { OnOk result
+        (text.new.items ≡ text.old.items ++ join_with_byte SPACE (kind.now ∷ name.now ∷ [])) }
     // The name is one.
     ensures named { OnOk result (is_name name.now ≡ true) }
 {
@@ -93,7 +100,8 @@ fn push_named(text: &mut Vec<u8>, kind: &[u8], name: &Name) -> Result<(), AllocE
 // Writes the words of a premise behind the text.
 fn push_premise(text: &mut Vec<u8>, premise: &Premise) -> Result<(), AllocError>
     // The premise's words stand behind the text.
-    ensures written { OnOk result (text.new.items ≡ text.old.items ++ join_with_byte SPACE (premise_words premise.now)) }
+    ensures written { OnOk result
+        (text.new.items ≡ text.old.items ++ join_with_byte SPACE (premise_words premise.now)) }
     // What the premise names is a name.
     ensures named { OnOk result (is_premise_named premise.now ≡ true) }
 {
@@ -113,7 +121,9 @@ fn push_premise(text: &mut Vec<u8>, premise: &Premise) -> Result<(), AllocError>
 
 // Writes the words of a derived line behind the text.
 fn push_derived(text: &mut Vec<u8>, literals: &[Literal], hints: &[u32]) -> Result<(), AllocError>
-    ensures { OnOk result (text.new.items ≡ text.old.items ++ join_with_byte SPACE (words_of (Derived literals.now hints.now))) }
+    ensures { OnOk result
+        (text.new.items ≡ text.old.items
+        ++ join_with_byte SPACE (words_of (Derived literals.now hints.now))) }
 {
     text.extend_from_slice(b"derive")?;
     push_literals(text, literals)?;
@@ -123,7 +133,8 @@ fn push_derived(text: &mut Vec<u8>, literals: &[Literal], hints: &[u32]) -> Resu
 
 fn push_words(text: &mut Vec<u8>, line: &Line) -> Result<(), AllocError>
     // The line's words stand behind the text.
-    ensures written { OnOk result (text.new.items ≡ text.old.items ++ join_with_byte SPACE (words_of line.now)) }
+    ensures written { OnOk result
+        (text.new.items ≡ text.old.items ++ join_with_byte SPACE (words_of line.now)) }
     // What the line names is a name.
     ensures named { OnOk result (is_named line.now ≡ true) }
 {

@@ -17,33 +17,33 @@ use Rattle.refutecheck.proofs.PairLemmas.{has_at}
 use mathlib.Core.Logic.{inl, inr}
 
 -- an element of a list of one, and of two
-pub of_one : {X : Type 0} (one found : X) → Contains (one ∷ []) found ↔ (found ≡ one)
-of_one {X} one found = (
-  λ within. elim (Contains-cons one [] found within) [ inl same ↦ sym same | inr none ↦ absurd (Contains-nil found none) ],
+pub of_one : {X : Type 0} (one item : X) → Contains (one ∷ []) item ↔ (item ≡ one)
+of_one {X} one item = (
+  λ within. elim (Contains-cons one [] item within) [ inl same ↦ sym same | inr none ↦ absurd (Contains-nil item none) ],
   λ same. subst (Contains (one ∷ [])) (sym same) (Contains-head one []),
 )
 
-pub of_two : {X : Type 0} (one two found : X) → Contains (one ∷ two ∷ []) found ↔ ((found ≡ one) ⊎ (found ≡ two))
-of_two {X} one two found = (
-  λ within. elim (Contains-cons one (two ∷ []) found within) [
+pub of_two : {X : Type 0} (one two item : X) → Contains (one ∷ two ∷ []) item ↔ ((item ≡ one) ⊎ (item ≡ two))
+of_two {X} one two item = (
+  λ within. elim (Contains-cons one (two ∷ []) item within) [
     | inl same ↦ inl (sym same)
-    | inr later ↦ inr ((of_one two found).0 later)
+    | inr later ↦ inr ((of_one two item).0 later)
   ],
   λ either. elim either [
     | inl same ↦ subst (Contains (one ∷ two ∷ [])) (sym same) (Contains-head one (two ∷ []))
-    | inr same ↦ Contains-rest one (two ∷ []) found ((of_one two found).1 same)
+    | inr same ↦ Contains-rest one (two ∷ []) item ((of_one two item).1 same)
   ],
 )
 
 -- where one fact holds exactly where the other does, the clause of the one is that of the other
-pub where_same : (one other : Type 0) (clause : Literal → Type 0) (found : Option (List Literal)) → one ↔ other
-    → IsClauseWhere one clause found → IsClauseWhere other clause found
+pub where_same : (one other : Type 0) (clause : Literal → Type 0) (answer : Option (List Literal)) → one ↔ other
+    → IsClauseWhere one clause answer → IsClauseWhere other clause answer
 where_same one other clause None same isnt = λ holds. isnt (same.1 holds)
 where_same one other clause (Some literals) same is = (same.0 is.0, is.1)
 
 -- a property that is another's selects the same
-pub selects_alike : (u : Universe) (P Q : Pkg → Type 0) → ((pkg : Pkg) → P pkg ↔ Q pkg) → (found : Literal)
-    → Selects u P found ↔ Selects u Q found
+pub selects_alike : (u : Universe) (P Q : Pkg → Type 0) → ((pkg : Pkg) → P pkg ↔ Q pkg) → (literal : Literal)
+    → Selects u P literal ↔ Selects u Q literal
 selects_alike u P Q alike (literal.Selected number) = (
   λ (pair, there, holds). (pair, there, (alike pair.pkg).0 holds),
   λ (pair, there, holds). (pair, there, (alike pair.pkg).1 holds),
@@ -51,8 +51,8 @@ selects_alike u P Q alike (literal.Selected number) = (
 selects_alike u P Q alike (literal.Unselected number) = (λ is. is, λ is. is)
 
 -- one of two properties selects what one of them selects
-selects_either : (u : Universe) (P Q R : Pkg → Type 0) → ((pkg : Pkg) → R pkg ↔ (P pkg ⊎ Q pkg)) → (found : Literal)
-    → Selects u R found ↔ (Selects u P found ⊎ Selects u Q found)
+selects_either : (u : Universe) (P Q R : Pkg → Type 0) → ((pkg : Pkg) → R pkg ↔ (P pkg ⊎ Q pkg)) → (literal : Literal)
+    → Selects u R literal ↔ (Selects u P literal ⊎ Selects u Q literal)
 selects_either u P Q R either (literal.Selected number) = (to, from)
   where
     to : Selects u R (literal.Selected number) → Selects u P (literal.Selected number) ⊎ Selects u Q (literal.Selected number)
@@ -76,7 +76,7 @@ matches_more pkg atoms atom = (
   λ some. elim (Any-append (Matches pkg) atoms (atom ∷ []) some) [
     | inl before ↦ inl before
     | inr here ↦ inr (Any-elim (Matches pkg) (atom ∷ []) (Matches pkg atom)
-        (λ found within holds. subst (Matches pkg) ((of_one atom found).0 within) holds) here)
+        (λ other within holds. subst (Matches pkg) ((of_one atom other).0 within) holds) here)
   ],
   λ either. elim either [
     | inl before ↦ Any-append_left (Matches pkg) atoms (atom ∷ []) before
@@ -86,10 +86,10 @@ matches_more pkg atoms atom = (
 )
 
 -- before the first atom
-pub no_atoms : (u : Universe) (number : ℕ) (found : Literal)
-    → Contains (literal.Unselected number ∷ []) found ↔ IsOutOrMatching u number [] found
-no_atoms u number found =
-    (λ within. inl ((of_one (literal.Unselected number) found).0 within), λ either. from found either)
+pub no_atoms : (u : Universe) (number : ℕ) (disjunct : Literal)
+    → Contains (literal.Unselected number ∷ []) disjunct ↔ IsOutOrMatching u number [] disjunct
+no_atoms u number disjunct =
+    (λ within. inl ((of_one (literal.Unselected number) disjunct).0 within), λ either. from disjunct either)
   where
     from : (f : Literal) → IsOutOrMatching u number [] f → Contains (literal.Unselected number ∷ []) f
     from f (inl out) = (of_one (literal.Unselected number) f).1 out
@@ -98,32 +98,32 @@ no_atoms u number found =
 
 -- one atom more
 pub one_atom_more : (u : Universe) (number : ℕ) (atoms : List Atom) (index : ℕ) (d : Atom) → index < length atoms
-    → (before after : Literal → Type 0) → ((found : Literal) → before found ↔ IsOutOrMatching u number (take index atoms) found)
-    → ((found : Literal) → after found ↔ (before found ⊎ Selects u (λ pkg. Matches pkg (get_or atoms index d)) found))
-    → (found : Literal) → after found ↔ IsOutOrMatching u number (take (index + 1) atoms) found
-one_atom_more u number atoms index d within before after so_far adds found =
-    let Over : List Atom → Type 0 = λ done. after found ↔ IsOutOrMatching u number done found in
+    → (before after : Literal → Type 0) → ((literal : Literal) → before literal ↔ IsOutOrMatching u number (take index atoms) literal)
+    → ((literal : Literal) → after literal ↔ (before literal ⊎ Selects u (λ pkg. Matches pkg (get_or atoms index d)) literal))
+    → (literal : Literal) → after literal ↔ IsOutOrMatching u number (take (index + 1) atoms) literal
+one_atom_more u number atoms index d within before after so_far adds literal =
+    let Over : List Atom → Type 0 = λ done. after literal ↔ IsOutOrMatching u number done literal in
     subst Over (sym (take_more atoms index d within)) (to, from)
   where
     last : Atom
     last = get_or atoms index d
 
-    both : Selects u (λ pkg. MatchesSome pkg (take index atoms ++ last ∷ [])) found
-        ↔ (Selects u (λ pkg. MatchesSome pkg (take index atoms)) found ⊎ Selects u (λ pkg. Matches pkg last) found)
+    both : Selects u (λ pkg. MatchesSome pkg (take index atoms ++ last ∷ [])) literal
+        ↔ (Selects u (λ pkg. MatchesSome pkg (take index atoms)) literal ⊎ Selects u (λ pkg. Matches pkg last) literal)
     both = selects_either u (λ pkg. MatchesSome pkg (take index atoms)) (λ pkg. Matches pkg last)
-        (λ pkg. MatchesSome pkg (take index atoms ++ last ∷ [])) (λ pkg. matches_more pkg (take index atoms) last) found
+        (λ pkg. MatchesSome pkg (take index atoms ++ last ∷ [])) (λ pkg. matches_more pkg (take index atoms) last) literal
 
-    to : after found → IsOutOrMatching u number (take index atoms ++ last ∷ []) found
-    to now = elim ((adds found).0 now) [
-      | inl was ↦ elim ((so_far found).0 was) [ inl out ↦ inl out | inr some ↦ inr (both.1 (inl some)) ]
+    to : after literal → IsOutOrMatching u number (take index atoms ++ last ∷ []) literal
+    to now = elim ((adds literal).0 now) [
+      | inl was ↦ elim ((so_far literal).0 was) [ inl out ↦ inl out | inr some ↦ inr (both.1 (inl some)) ]
       | inr here ↦ inr (both.1 (inr here))
     ]
 
-    from : IsOutOrMatching u number (take index atoms ++ last ∷ []) found → after found
-    from (inl out) = (adds found).1 (inl ((so_far found).1 (inl out)))
+    from : IsOutOrMatching u number (take index atoms ++ last ∷ []) literal → after literal
+    from (inl out) = (adds literal).1 (inl ((so_far literal).1 (inl out)))
     from (inr some) = elim (both.0 some) [
-      | inl was ↦ (adds found).1 (inl ((so_far found).1 (inr was)))
-      | inr here ↦ (adds found).1 (inr here)
+      | inl was ↦ (adds literal).1 (inl ((so_far literal).1 (inr was)))
+      | inr here ↦ (adds literal).1 (inr here)
     ]
 
 -- what a premise of Pre-Depends or of Depends says, by the field
@@ -131,8 +131,8 @@ abbrev pub NeedsAt : Universe → (Pkg → List (List Atom)) → ℕ → ℕ →
 NeedsAt u field number clause = PairHas u number (λ pkg. HasAt (field pkg) clause (λ _. ⊤))
 
 abbrev pub IsInNeed : Universe → (Pkg → List (List Atom)) → ℕ → ℕ → Literal → Type 0
-IsInNeed u field number clause found = (found ≡ literal.Unselected number)
-    ⊎ Selects u (λ other. PairHas u number (λ pkg. HasAt (field pkg) clause (MatchesSome other))) found
+IsInNeed u field number clause disjunct = (disjunct ≡ literal.Unselected number)
+    ⊎ Selects u (λ other. PairHas u number (λ pkg. HasAt (field pkg) clause (MatchesSome other))) disjunct
 
 pub the_clause : (u : Universe) (field : Pkg → List (List Atom)) (number clause : ℕ) (pkg : Pkg) (atoms : List Atom) (literals : List Literal)
     → Some pkg ≡ item_at (packages_of u.pairs) number → Some atoms ≡ item_at (field pkg) clause
@@ -140,11 +140,11 @@ pub the_clause : (u : Universe) (field : Pkg → List (List Atom)) (number claus
     → NeedsAt u field number clause × IsListOf (IsInNeed u field number clause) literals
 the_clause u field number clause pkg atoms literals is here all = (
   (has_at u number pkg (λ p. HasAt (field p) clause (λ _. ⊤)) (sym is)).0 (atoms, sym here, tt),
-  λ found.
+  λ literal.
       let same = selects_alike u (λ other. MatchesSome other atoms)
-      (λ other. PairHas u number (λ p. HasAt (field p) clause (MatchesSome other))) alike found in (
-        λ within. elim ((all found).0 within) [ inl out ↦ inl out | inr some ↦ inr (same.0 some) ],
-        λ either. elim either [ inl out ↦ (all found).1 (inl out) | inr some ↦ (all found).1 (inr (same.1 some)) ],
+      (λ other. PairHas u number (λ p. HasAt (field p) clause (MatchesSome other))) alike literal in (
+        λ within. elim ((all literal).0 within) [ inl out ↦ inl out | inr some ↦ inr (same.0 some) ],
+        λ either. elim either [ inl out ↦ (all literal).1 (inl out) | inr some ↦ (all literal).1 (inr (same.1 some)) ],
       ),
 )
   where
@@ -153,14 +153,14 @@ the_clause u field number clause pkg atoms literals is here all = (
         let has = has_at u number pkg (λ p. HasAt (field p) clause (MatchesSome other)) (sym is) in (
           λ some. has.0 (atoms, sym here, some),
           λ there.
-              let (found, at, some) = has.1 there in
-              subst (MatchesSome other) (same_Some found atoms (sym at ∙ sym here)) some,
+              let (others, at, some) = has.1 there in
+              subst (MatchesSome other) (same_Some others atoms (sym at ∙ sym here)) some,
         )
 
 -- the clause of the field of the pair's package
 pub need_at : (u : Universe) (field : Pkg → List (List Atom)) (number clause : ℕ) (pkg : Pkg) (clauses : List (List Atom))
-    (found : Option (List Literal)) → Some pkg ≡ item_at (packages_of u.pairs) number → clauses ≡ field pkg
-    → IsNeedOf u number (item_at clauses clause) found → IsClauseWhere (NeedsAt u field number clause) (IsInNeed u field number clause) found
+    (answer : Option (List Literal)) → Some pkg ≡ item_at (packages_of u.pairs) number → clauses ≡ field pkg
+    → IsNeedOf u number (item_at clauses clause) answer → IsClauseWhere (NeedsAt u field number clause) (IsInNeed u field number clause) answer
 need_at u field number clause pkg clauses None is same none = λ needs.
     let there = (has_at u number pkg (λ p. HasAt (field p) clause (λ _. ⊤)) (sym is)).1 needs in
     let here : item_at (field pkg) clause ≡ None = ap (λ (cs : List (List Atom)). item_at cs clause) (sym same) ∙ none in

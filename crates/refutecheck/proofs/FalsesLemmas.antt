@@ -11,25 +11,25 @@ use mathlib.Core.Logic.{inl, inr}
 -- one literal more
 pub one_more : (before after : Literal → Type 0) (literals : List Literal) (place : ℕ) (d : Literal) → place < length literals
     → AreAlike before (Contains (take place literals))
-    → AreAlike after (λ found. before found ⊎ (found ≡ get_or literals place d))
+    → AreAlike after (λ literal. before literal ⊎ (literal ≡ get_or literals place d))
     → AreAlike after (Contains (take (place + 1) literals))
-one_more before after literals place d within so_far alike found =
-    let With : List Literal → Type 0 = λ items. after found ↔ Contains items found in
+one_more before after literals place d within so_far alike literal =
+    let With : List Literal → Type 0 = λ items. after literal ↔ Contains items literal in
     subst With (sym (take_more literals place d within)) (to, from)
   where
     last : Literal
     last = get_or literals place d
 
-    to : after found → Contains (take place literals ++ last ∷ []) found
-    to now = elim ((alike found).0 now) [
-      | inl earlier ↦ Contains-append_left (take place literals) (last ∷ []) found ((so_far found).0 earlier)
+    to : after literal → Contains (take place literals ++ last ∷ []) literal
+    to now = elim ((alike literal).0 now) [
+      | inl earlier ↦ Contains-append_left (take place literals) (last ∷ []) literal ((so_far literal).0 earlier)
       | inr is ↦ subst (Contains (take place literals ++ last ∷ [])) (sym is) (Contains-push (take place literals) last)
     ]
 
-    from : Contains (take place literals ++ last ∷ []) found → after found
-    from there = elim (Contains-push_cases (take place literals) last found there) [
-      | inl earlier ↦ (alike found).1 (inl ((so_far found).1 earlier))
-      | inr is ↦ (alike found).1 (inr (sym is))
+    from : Contains (take place literals ++ last ∷ []) literal → after literal
+    from there = elim (Contains-push_cases (take place literals) last literal there) [
+      | inl earlier ↦ (alike literal).1 (inl ((so_far literal).1 earlier))
+      | inr is ↦ (alike literal).1 (inr (sym is))
     ]
 
 -- no literal is left

@@ -12,28 +12,28 @@ use mathlib.Core.Logic.{inl, inr}
 
 -- the other way round
 pub alike_back : (falses others : Literal → Type 0) → AreAlike falses others → AreAlike others falses
-alike_back falses others alike found = ((alike found).1, (alike found).0)
+alike_back falses others alike literal = ((alike literal).1, (alike literal).0)
 
 -- what is open beside the one is open beside the other
-open_alike : (falses others clause : Literal → Type 0) → AreAlike falses others → (found : Literal)
-    → IsOpen others clause found → IsOpen falses clause found
-open_alike falses others clause alike found opened = (opened.0, λ is. opened.1 ((alike found).0 is))
+open_alike : (falses others clause : Literal → Type 0) → AreAlike falses others → (literal : Literal)
+    → IsOpen others clause literal → IsOpen falses clause literal
+open_alike falses others clause alike literal opened = (opened.0, λ is. opened.1 ((alike literal).0 is))
 
 pub one_alike : (falses others clause : Literal → Type 0) → AreAlike falses others
     → HasOneOpen falses clause → HasOneOpen others clause
-one_alike falses others clause alike single found other opened opens = single found other
-    (open_alike falses others clause alike found opened) (open_alike falses others clause alike other opens)
+one_alike falses others clause alike single literal other opened opens = single literal other
+    (open_alike falses others clause alike literal opened) (open_alike falses others clause alike other opens)
 
 after_alike : (falses others clause : Literal → Type 0) → AreAlike falses others
     → AreAlike (FalseAfter falses clause) (FalseAfter others clause)
-after_alike falses others clause alike found = (
+after_alike falses others clause alike literal = (
   λ either. elim either [
-    | inl is ↦ inl ((alike found).0 is)
-    | inr opened ↦ inr (open_alike others falses clause (alike_back falses others alike) (negation found) opened)
+    | inl is ↦ inl ((alike literal).0 is)
+    | inr opened ↦ inr (open_alike others falses clause (alike_back falses others alike) (negation literal) opened)
   ],
   λ either. elim either [
-    | inl is ↦ inl ((alike found).1 is)
-    | inr opened ↦ inr (open_alike falses others clause alike (negation found) opened)
+    | inl is ↦ inl ((alike literal).1 is)
+    | inr opened ↦ inr (open_alike falses others clause alike (negation literal) opened)
   ],
 )
 
@@ -41,7 +41,7 @@ after_alike falses others clause alike found = (
 pub through_alike : (clauses : List (List Literal)) (falses others : Literal → Type 0) (hints : List ℕ) (last : ℕ)
     → AreAlike falses others → GoesThrough clauses falses hints last → GoesThrough clauses others hints last
 through_alike clauses falses others [] last alike (clause, here, all) =
-    (clause, here, λ found within. (alike found).0 (all found within))
+    (clause, here, λ literal within. (alike literal).0 (all literal within))
 through_alike clauses falses others (hint ∷ rest) last alike (clause, here, (single, through)) = (
   clause,
   here,
@@ -68,13 +68,13 @@ one_further clauses falses after went hint rest last goes = (to, from)
 
     from : IsTrue went × GoesThrough clauses after rest last → GoesThrough clauses falses (hint ∷ rest) last
     from (is, through) =
-        let found = goes.0.0 is in (
-          found.0,
-          found.1,
+        let next = goes.0.0 is in (
+          next.0,
+          next.1,
           (
-            found.2,
-            through_alike clauses after (FalseAfter falses (Contains found.0)) rest last
-                (goes.1 found.0 found.1 is) through,
+            next.2,
+            through_alike clauses after (FalseAfter falses (Contains next.0)) rest last
+                (goes.1 next.0 next.1 is) through,
           ),
         )
 

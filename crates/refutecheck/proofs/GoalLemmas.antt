@@ -19,7 +19,7 @@ use Rattle.refutecheck.proofs.AnswerLemmas.{selects_alike}
 use mathlib.Core.Logic.{inl, inr}
 
 -- only one goal passes the test
-is_that : (found : Goal) → is_no_remove found ≡ true → goal.NoRemove ≡ found
+is_that : (asked : Goal) → is_no_remove asked ≡ true → goal.NoRemove ≡ asked
 is_that (goal.Install name restriction) passes = absurd (let e : false ≡ true = passes in cc)
 is_that (goal.Remove name) passes = absurd (let e : false ≡ true = passes in cc)
 is_that (goal.Purge name) passes = absurd (let e : false ≡ true = passes in cc)
@@ -31,22 +31,22 @@ is_that goal.NoRemove passes = refl
 pub no_remove_decides : (goals : List Goal) (answer : Bool) → answer ≡ list_any is_no_remove goals
     → IsTrue answer ↔ Contains goals goal.NoRemove
 no_remove_decides goals answer is = (
-  λ so. Any-elim (λ found. is_no_remove found ≡ true) goals (Contains goals goal.NoRemove)
-      (λ found within passes. subst (Contains goals) (sym (is_that found passes)) within)
+  λ so. Any-elim (λ asked. is_no_remove asked ≡ true) goals (Contains goals goal.NoRemove)
+      (λ asked within passes. subst (Contains goals) (sym (is_that asked passes)) within)
       (Any-from_list_any is_no_remove goals (sym is ∙ so)),
   λ within. is ∙ list_any-from_contains is_no_remove goals goal.NoRemove within refl,
 )
 
 -- what the goal of the number asks for is what the premise says
-pub asked_there : (u : Universe) (number : ℕ) (asked : Goal) (found : Option (List Literal)) → Some asked ≡ item_at u.goals number
-    → IsClauseWhere (AsksForMember asked) (Selects u (IsAskedBy u asked)) found → IsAnswer u (premise.Goal number) found
+pub asked_there : (u : Universe) (number : ℕ) (asked : Goal) (answer : Option (List Literal)) → Some asked ≡ item_at u.goals number
+    → IsClauseWhere (AsksForMember asked) (Selects u (IsAskedBy u asked)) answer → IsAnswer u (premise.Goal number) answer
 asked_there u number asked None is isnt = λ (goal, there, asks).
     isnt (subst AsksForMember (same_Some goal asked (sym there ∙ sym is)) asks)
 asked_there u number asked (Some literals) is (asks, all) = (
   (asked, sym is, asks),
-  λ found.
-      let same = selects_alike u (IsAskedBy u asked) There alike found in
-      (λ within. same.0 ((all found).0 within), λ in_premise. (all found).1 (same.1 in_premise)),
+  λ literal.
+      let same = selects_alike u (IsAskedBy u asked) There alike literal in
+      (λ within. same.0 ((all literal).0 within), λ in_premise. (all literal).1 (same.1 in_premise)),
 )
   where
     There : Pkg → Type 0

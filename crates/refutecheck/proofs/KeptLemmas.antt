@@ -58,7 +58,7 @@ pub kept_pushed : (lists after : List (List Literal)) (clause : List Literal) (p
     → new ≡ places ++ count ∷ [] → count ≡ length lists → All (λ place. place < length lists) places
     → map (λ place. get_or after place []) new ≡ map (λ place. get_or lists place []) places ++ clause ∷ []
 kept_pushed lists after clause places new count is new_is counted all =
-    ap (λ (found : List (List Literal)). map (λ place. get_or found place []) new) is
+    ap (λ (clauses : List (List Literal)). map (λ place. get_or clauses place []) new) is
     ∙ ap (map (λ place. get_or (lists ++ clause ∷ []) place [])) new_is
     ∙ map-append (λ place. get_or (lists ++ clause ∷ []) place []) places (count ∷ [])
     ∙ ap (λ (front : List (List Literal)). front ++ get_or (lists ++ clause ∷ []) count [] ∷ []) (kept_more lists clause places all)

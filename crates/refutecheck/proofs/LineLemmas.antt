@@ -57,7 +57,7 @@ last_right {X} {Y} R (z ∷ zs) (y ∷ ys) x all =
     record { earlier = y ∷ later.earlier; last = later.last; place = ap (λ (ws : List Y). y ∷ ws) later.place; holds = later.holds }
 
 -- a list in which there is nothing is empty
-nothing_in : (literals : List Literal) → ((found : Literal) → ¬ Contains literals found) → literals ≡ []
+nothing_in : (literals : List Literal) → ((literal : Literal) → ¬ Contains literals literal) → literals ≡ []
 nothing_in [] none = refl
 nothing_in (literal ∷ rest) none = absurd (none literal (Contains-head literal rest))
 
@@ -73,14 +73,14 @@ ends_alike u lines clauses all = (to, from)
           earlier = last.earlier;
           last = last.last;
           place = last.place;
-          empty = λ found within. Contains-nil found ((last.holds found).1 within);
+          empty = λ literal within. Contains-nil literal ((last.holds literal).1 within);
         }
 
     from : EndsEmpty u lines → EndsWithNone clauses
     from ends =
         let With : List Line → Type 0 = λ ls. AllZip (IsClauseOf u) ls clauses in
         let last = last_right (IsClauseOf u) ends.earlier clauses ends.last (subst With ends.place all) in
-        let none : last.last ≡ [] = nothing_in last.last (λ found within. ends.empty found ((last.holds found).0 within)) in
+        let none : last.last ≡ [] = nothing_in last.last (λ literal within. ends.empty literal ((last.holds literal).0 within)) in
         (last.earlier, last.place ∙ ap (λ (c : List Literal). last.earlier ++ c ∷ []) none)
 
 -- one line more, which is good, with its clause
@@ -102,23 +102,23 @@ zip_at R (z ∷ zs) (w ∷ ws) zero x d all is = subst (λ v. R v w) (let h = is
 zip_at R (z ∷ zs) (w ∷ ws) (suc place) x d all is = zip_at R zs ws place x d all.1 is
 
 -- a premise that was a line before is good once more, and has the clause of that line
-pub repeated_line : (u : Universe) (lines : List Line) (clauses : List (List Literal)) (place : ℕ) (found : Line)
-    → AreJudged u lines clauses → IsRepeatedAt lines place found
-    → (place < length clauses) × IsGoodLine u lines found × IsClauseOf u found (get_or clauses place [])
+pub repeated_line : (u : Universe) (lines : List Line) (clauses : List (List Literal)) (place : ℕ) (line : Line)
+    → AreJudged u lines clauses → IsRepeatedAt lines place line
+    → (place < length clauses) × IsGoodLine u lines line × IsClauseOf u line (get_or clauses place [])
 unfolding AreGoodLines
-repeated_line u lines clauses place found judged ((premise, is), there) = (
+repeated_line u lines clauses place line judged ((premise, is), there) = (
   omega (arith, within, judged.many),
   subst (IsGoodLine u lines) (sym is) (subst (IsGoodLine u (take place lines)) is good),
-  zip_at (IsClauseOf u) lines clauses place found [] judged.zip there,
+  zip_at (IsClauseOf u) lines clauses place line [] judged.zip there,
 )
   where
     within : place < length lines
-    within = slice_get_within lines place found there
+    within = slice_get_within lines place line there
 
-    good : IsGoodLine u (take place lines) found
-    good = judged.good (take place lines) (drop (place + 1) lines) found
+    good : IsGoodLine u (take place lines) line
+    good = judged.good (take place lines) (drop (place + 1) lines) line
         (sym (take-append-drop place lines) ∙ ap (λ (rest : List Line). take place lines ++ rest)
-        (drop_more lines place found within ∙ ap (λ (line : Line). line ∷ drop (place + 1) lines) (get_or_from_slice_get lines place found found there)))
+        (drop_more lines place line within ∙ ap (λ (line : Line). line ∷ drop (place + 1) lines) (get_or_from_slice_get lines place line line there)))
 
 -- no line is left
 pub all_judged : (u : Universe) (lines : List Line) (clauses : List (List Literal)) (index : ℕ) → length lines ≤ index
@@ -132,7 +132,7 @@ pub first_bad : (u : Universe) (lines : List Line) (clauses : List (List Literal
 unfolding IsFirstBad
 first_bad u lines clauses index d within judged bad = inl (record {
   earlier = take index lines;
-  found = get_or lines index d;
+  line = get_or lines index d;
   rest = drop (index + 1) lines;
   place = sym (take-append-drop index lines) ∙ ap (λ (rest : List Line). take index lines ++ rest) (drop_more lines index d within);
   number_is = ap (λ n. n + 1) (sym (length-take-le index lines (omega (arith, within))));
@@ -164,7 +164,7 @@ unfolding HasAscendingPairs
 ascending u sorted = AllPairs-rising pair_cmp u.pairs sorted
 
 -- where lines are accepted, no selection is acceptable
-pub refutes_all : (u : Universe) (lines : List Line) (found : Verdict) → NoneIsAcceptable → IsStrictlySortedBy pair_cmp u.pairs
-    → IsVerdict u lines found → Refutes u found
+pub refutes_all : (u : Universe) (lines : List Line) (answer : Verdict) → NoneIsAcceptable → IsStrictlySortedBy pair_cmp u.pairs
+    → IsVerdict u lines answer → Refutes u answer
 refutes_all u lines verdict.Yes law sorted is = law u lines (ascending u sorted) is
 refutes_all u lines (verdict.No number) law sorted is = tt

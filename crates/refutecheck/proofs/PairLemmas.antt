@@ -45,7 +45,7 @@ pub has_at : (u : Universe) (number : ℕ) (pkg : Pkg) (P : Pkg → Type 0) → 
 has_at u number pkg P is = (to, from)
   where
     to : P pkg → PairHas u number P
-    to holds = let found = pair_at u number pkg is in (found.0, found.1, subst P (sym found.2) holds)
+    to holds = let pair = pair_at u number pkg is in (pair.0, pair.1, subst P (sym pair.2) holds)
 
     from : PairHas u number P → P pkg
     from (pair, there, holds) =
@@ -59,21 +59,21 @@ decides_at u number pkg P answer is decides =
     (λ so. has.0 (decides.0 so), λ there. decides.1 (has.1 there))
 
 -- what decides of two packages decides of their pairs
-pub decides_of_two : (u : Universe) (number other : ℕ) (pkg found : Pkg) (R : Pkg → Pkg → Type 0) (answer : Bool)
-    → Some pkg ≡ item_at (packages_of u.pairs) number → Some found ≡ item_at (packages_of u.pairs) other
-    → (IsTrue answer ↔ R pkg found) → IsTrue answer ↔ PairsAre u number other R
-decides_of_two u number other pkg found R answer is here decides =
-    decides_at u number pkg (λ p. PairHas u other (R p)) answer is (decides_at u other found (R pkg) answer here decides)
+pub decides_of_two : (u : Universe) (number other : ℕ) (pkg other_pkg : Pkg) (R : Pkg → Pkg → Type 0) (answer : Bool)
+    → Some pkg ≡ item_at (packages_of u.pairs) number → Some other_pkg ≡ item_at (packages_of u.pairs) other
+    → (IsTrue answer ↔ R pkg other_pkg) → IsTrue answer ↔ PairsAre u number other R
+decides_of_two u number other pkg other_pkg R answer is here decides =
+    decides_at u number pkg (λ p. PairHas u other (R p)) answer is (decides_at u other other_pkg (R pkg) answer here decides)
 
 -- the literals of the places of all providers of a name are those of the packages with a property that has the name
 pub at_places : (u : Universe) (name : List ℕ) (places : List ℕ) (P : Pkg → Type 0)
     → ((place : ℕ) → Contains places place ↔ IsProviderAt name (packages_of u.pairs) place)
     → ((pkg : Pkg) → P pkg → Matches pkg (plain_atom name))
-    → (found : Literal) → Any (λ place. IsSelectedAt (packages_of u.pairs) P place found) places ↔ Selects u P found
-at_places u name places P exact named found = (to, from found)
+    → (disjunct : Literal) → Any (λ place. IsSelectedAt (packages_of u.pairs) P place disjunct) places ↔ Selects u P disjunct
+at_places u name places P exact named disjunct = (to, from disjunct)
   where
-    to : Any (λ place. IsSelectedAt (packages_of u.pairs) P place found) places → Selects u P found
-    to some = Any-elim (λ place. IsSelectedAt (packages_of u.pairs) P place found) places (Selects u P found)
+    to : Any (λ place. IsSelectedAt (packages_of u.pairs) P place disjunct) places → Selects u P disjunct
+    to some = Any-elim (λ place. IsSelectedAt (packages_of u.pairs) P place disjunct) places (Selects u P disjunct)
         (λ place within (is, (pkg, there, holds)).
         let has : PairHas u (suc place) P = (has_at u (suc place) pkg P there).0 holds in
         subst (Selects u P) (sym is) (let N : ℕ → Type 0 = λ n. PairHas u n P in subst N (sym (add-one place)) has)) some
@@ -90,37 +90,37 @@ at_places u name places P exact named found = (to, from found)
 -- one place more: what is selected at it
 pub one_place_more : (packages : List Pkg) (P : Pkg → Type 0) (places : List ℕ) (index : ℕ) → index < length places
     → (before middle after : Literal → Type 0)
-    → ((found : Literal) → middle found ↔ (before found ⊎ Any (λ place. IsSelectedAt packages P place found) (take index places)))
-    → ((found : Literal) → after found ↔ (middle found ⊎ IsSelectedAt packages P (get_or places index 0) found))
-    → (found : Literal) → after found ↔ (before found ⊎ Any (λ place. IsSelectedAt packages P place found) (take (index + 1) places))
-one_place_more packages P places index within before middle after so_far adds found =
-    let Step : List ℕ → Type 0 = λ done. after found ↔ (before found ⊎ Any (λ place. IsSelectedAt packages P place found) done) in
+    → ((disjunct : Literal) → middle disjunct ↔ (before disjunct ⊎ Any (λ place. IsSelectedAt packages P place disjunct) (take index places)))
+    → ((disjunct : Literal) → after disjunct ↔ (middle disjunct ⊎ IsSelectedAt packages P (get_or places index 0) disjunct))
+    → (disjunct : Literal) → after disjunct ↔ (before disjunct ⊎ Any (λ place. IsSelectedAt packages P place disjunct) (take (index + 1) places))
+one_place_more packages P places index within before middle after so_far adds disjunct =
+    let Step : List ℕ → Type 0 = λ done. after disjunct ↔ (before disjunct ⊎ Any (λ place. IsSelectedAt packages P place disjunct) done) in
     subst Step (sym (take_more places index 0 within)) (to, from)
   where
     last : ℕ
     last = get_or places index 0
 
-    to : after found → before found ⊎ Any (λ place. IsSelectedAt packages P place found) (take index places ++ last ∷ [])
-    to now = elim ((adds found).0 now) [
-      | inl earlier ↦ elim ((so_far found).0 earlier) [
+    to : after disjunct → before disjunct ⊎ Any (λ place. IsSelectedAt packages P place disjunct) (take index places ++ last ∷ [])
+    to now = elim ((adds disjunct).0 now) [
+      | inl earlier ↦ elim ((so_far disjunct).0 earlier) [
         | inl was ↦ inl was
-        | inr some ↦ inr (Any-append_left (λ place. IsSelectedAt packages P place found) (take index places) (last ∷ []) some)
+        | inr some ↦ inr (Any-append_left (λ place. IsSelectedAt packages P place disjunct) (take index places) (last ∷ []) some)
       ]
-      | inr here ↦ inr (Any-append_right (λ place. IsSelectedAt packages P place found) (take index places) (last ∷ [])
-          (Any-intro (λ place. IsSelectedAt packages P place found) (last ∷ []) last (Contains-head last []) here))
+      | inr here ↦ inr (Any-append_right (λ place. IsSelectedAt packages P place disjunct) (take index places) (last ∷ [])
+          (Any-intro (λ place. IsSelectedAt packages P place disjunct) (last ∷ []) last (Contains-head last []) here))
     ]
 
-    from : before found ⊎ Any (λ place. IsSelectedAt packages P place found) (take index places ++ last ∷ []) → after found
-    from (inl was) = (adds found).1 (inl ((so_far found).1 (inl was)))
-    from (inr some) = elim (Any-append (λ place. IsSelectedAt packages P place found) (take index places) (last ∷ []) some) [
-      | inl earlier ↦ (adds found).1 (inl ((so_far found).1 (inr earlier)))
-      | inr here ↦ (adds found).1 (inr (only here))
+    from : before disjunct ⊎ Any (λ place. IsSelectedAt packages P place disjunct) (take index places ++ last ∷ []) → after disjunct
+    from (inl was) = (adds disjunct).1 (inl ((so_far disjunct).1 (inl was)))
+    from (inr some) = elim (Any-append (λ place. IsSelectedAt packages P place disjunct) (take index places) (last ∷ []) some) [
+      | inl earlier ↦ (adds disjunct).1 (inl ((so_far disjunct).1 (inr earlier)))
+      | inr here ↦ (adds disjunct).1 (inr (only here))
     ]
       where
-        only : Any (λ place. IsSelectedAt packages P place found) (last ∷ []) → IsSelectedAt packages P last found
-        only there = Any-elim (λ place. IsSelectedAt packages P place found) (last ∷ []) (IsSelectedAt packages P last found)
+        only : Any (λ place. IsSelectedAt packages P place disjunct) (last ∷ []) → IsSelectedAt packages P last disjunct
+        only there = Any-elim (λ place. IsSelectedAt packages P place disjunct) (last ∷ []) (IsSelectedAt packages P last disjunct)
             (λ place within holds. elim (Contains-cons last [] place within) [
-              | inl same ↦ let Q : ℕ → Type 0 = λ p. IsSelectedAt packages P p found in subst Q (sym same) holds
+              | inl same ↦ let Q : ℕ → Type 0 = λ p. IsSelectedAt packages P p disjunct in subst Q (sym same) holds
               | inr none ↦ absurd (Contains-nil place none)
             ]) there
 
@@ -128,17 +128,17 @@ one_place_more packages P places index within before middle after so_far adds fo
 pub by_places : (u : Universe) (packages : List Pkg) → packages ≡ packages_of u.pairs → (name places slice : List ℕ) → slice ≡ places
     → (P : Pkg → Type 0) → ((place : ℕ) → Contains places place ↔ IsProviderAt name packages place)
     → ((pkg : Pkg) → P pkg → Matches pkg (plain_atom name)) → (before after : List Literal) → before ≡ []
-    → ((found : Literal) → Contains after found
-    ↔ (Contains before found ⊎ Any (λ place. IsSelectedAt (packages_of u.pairs) P place found) slice))
+    → ((disjunct : Literal) → Contains after disjunct
+    ↔ (Contains before disjunct ⊎ Any (λ place. IsSelectedAt (packages_of u.pairs) P place disjunct) slice))
     → IsListOf (Selects u P) after
-by_places u packages are name places slice is P matching named before after none adds found =
+by_places u packages are name places slice is P matching named before after none adds disjunct =
     let Exact : List Pkg → Type 0 = λ ps. (place : ℕ) → Contains places place ↔ IsProviderAt name ps place in
     let Adds : List ℕ → Type 0 = λ ps.
-    Contains after found ↔ (Contains before found ⊎ Any (λ place. IsSelectedAt (packages_of u.pairs) P place found) ps) in
-    let all = at_places u name places P (subst Exact are matching) named found in
-    let here : Adds places = subst Adds is (adds found) in (
+    Contains after disjunct ↔ (Contains before disjunct ⊎ Any (λ place. IsSelectedAt (packages_of u.pairs) P place disjunct) ps) in
+    let all = at_places u name places P (subst Exact are matching) named disjunct in
+    let here : Adds places = subst Adds is (adds disjunct) in (
       λ now. elim (here.0 now) [
-        | inl was ↦ absurd (Contains-nil found (subst (λ (ls : List Literal). Contains ls found) none was))
+        | inl was ↦ absurd (Contains-nil disjunct (subst (λ (ls : List Literal). Contains ls disjunct) none was))
         | inr some ↦ all.0 some
       ],
       λ selects. here.1 (inr (all.1 selects)),
@@ -152,8 +152,8 @@ within_pairs u packages are atom places slice is exact =
     subst (All (λ place. place < length u.pairs)) (sym is) (All-intro (λ place. place < length u.pairs) places within)
   where
     within : (place : ℕ) → Contains places place → place < length u.pairs
-    within place found =
-        let (pkg, there, holds) = (exact place).0 found in
+    within place listed =
+        let (pkg, there, holds) = (exact place).0 listed in
         let here : slice_get (packages_of u.pairs) place ≡ Some pkg = ap (λ (ps : List Pkg). slice_get ps place) (sym are) ∙ there in
         let under : place < length (packages_of u.pairs) = slice_get_within (packages_of u.pairs) place pkg here in
         let same : length (packages_of u.pairs) ≡ length u.pairs = length-map u.pairs (λ (pair : Pair). pair.pkg) in
@@ -163,9 +163,9 @@ within_pairs u packages are atom places slice is exact =
 pub by_matching : (u : Universe) (packages : List Pkg) → packages ≡ packages_of u.pairs → (atom : Atom) (places slice : List ℕ)
     → slice ≡ places → ((place : ℕ) → Contains places place ↔ IsMatchAt packages atom place) → (before after : List Literal)
     → after ≡ before ++ map (λ place. literal.Selected (place + 1)) slice
-    → (found : Literal) → Contains after found ↔ (Contains before found ⊎ Selects u (λ pkg. Matches pkg atom) found)
-by_matching u packages are atom places slice is exact before after behind found =
-    let Over : List Literal → Type 0 = λ ls. Contains ls found ↔ (Contains before found ⊎ Selects u P found) in
+    → (disjunct : Literal) → Contains after disjunct ↔ (Contains before disjunct ⊎ Selects u (λ pkg. Matches pkg atom) disjunct)
+by_matching u packages are atom places slice is exact before after behind disjunct =
+    let Over : List Literal → Type 0 = λ ls. Contains ls disjunct ↔ (Contains before disjunct ⊎ Selects u P disjunct) in
     subst Over (sym (behind ∙ ap (λ (ps : List ℕ). before ++ map selected ps) is)) (to, from)
   where
     P : Pkg → Type 0
@@ -188,12 +188,12 @@ by_matching u packages are atom places slice is exact before after behind found 
         subst (Contains (map selected places)) (ap literal.Selected (add-one place)) (Contains-map_intro selected places place within)
     there (literal.Unselected number) has = absurd has
 
-    to : Contains (before ++ map selected places) found → Contains before found ⊎ Selects u P found
-    to within = elim (Contains-append_cases before (map selected places) found within) [
+    to : Contains (before ++ map selected places) disjunct → Contains before disjunct ⊎ Selects u P disjunct
+    to within = elim (Contains-append_cases before (map selected places) disjunct within) [
       | inl was ↦ inl was
-      | inr here ↦ inr (let (place, known, same) = Contains-map selected places found here in subst (Selects u P) same (at place ((exact place).0 known)))
+      | inr here ↦ inr (let (place, known, same) = Contains-map selected places disjunct here in subst (Selects u P) same (at place ((exact place).0 known)))
     ]
 
-    from : Contains before found ⊎ Selects u P found → Contains (before ++ map selected places) found
-    from (inl was) = Contains-append_left before (map selected places) found was
-    from (inr selects) = Contains-append_right before (map selected places) found (there found selects)
+    from : Contains before disjunct ⊎ Selects u P disjunct → Contains (before ++ map selected places) disjunct
+    from (inl was) = Contains-append_left before (map selected places) disjunct was
+    from (inr selects) = Contains-append_right before (map selected places) disjunct (there disjunct selects)

@@ -16,34 +16,34 @@ abbrev AreOfTwo : Start → Start → Type 0
 AreOfTwo earlier later = earlier.name ≢ later.name
 
 -- of two facts about one name there is one
-one_start : (starts : List Start) → HaveDistinctNames starts → (found other : Start) → Contains starts found → Contains starts other
-    → other.name ≡ found.name → other ≡ found
+one_start : (starts : List Start) → HaveDistinctNames starts → (start other : Start) → Contains starts start → Contains starts other
+    → other.name ≡ start.name → other ≡ start
 unfolding HaveDistinctNames
-one_start [] distinct found other within there same = absurd (Contains-nil found within)
-one_start (first ∷ rest) distinct found other within there same =
-    at (Contains-cons first rest found within) (Contains-cons first rest other there)
-    (λ later behind. one_start rest (pairs_tail AreOfTwo first rest distinct) found other later behind same)
+one_start [] distinct start other within there same = absurd (Contains-nil start within)
+one_start (first ∷ rest) distinct start other within there same =
+    at (Contains-cons first rest start within) (Contains-cons first rest other there)
+    (λ later behind. one_start rest (pairs_tail AreOfTwo first rest distinct) start other later behind same)
   where
     alone : (start : Start) → Contains rest start → first.name ≢ start.name
     alone start behind = All-contains (AreOfTwo first) rest start (pairs_head AreOfTwo first rest distinct) behind
 
-    at : (first ≡ found) ⊎ Contains rest found → (first ≡ other) ⊎ Contains rest other
-        → (Contains rest found → Contains rest other → other ≡ found) → other ≡ found
+    at : (first ≡ start) ⊎ Contains rest start → (first ≡ other) ⊎ Contains rest other
+        → (Contains rest start → Contains rest other → other ≡ start) → other ≡ start
     at (inl here) (inl also) later = sym also ∙ here
     at (inl here) (inr behind) later = absurd (alone other behind (ap (λ (s : Start). s.name) here ∙ sym same))
-    at (inr behind) (inl also) later = absurd (alone found behind (ap (λ (s : Start). s.name) also ∙ same))
+    at (inr behind) (inl also) later = absurd (alone start behind (ap (λ (s : Start). s.name) also ∙ same))
     at (inr behind) (inr further) later = later behind further
 
 -- what decides of the facts about a name decides of some facts about it
-pub decides_start : (starts : List Start) → HaveDistinctNames starts → (name : List ℕ) (found : Start) (P : Start → Type 0)
-    (answer : Bool) → Some found ≡ find (is_start_of name) starts → ((start : Start) → P start → start.name ≡ name)
-    → (IsTrue answer ↔ P found) → IsTrue answer ↔ Any P starts
-decides_start starts distinct name found P answer is named decides =
-    let here = find-some (is_start_of name) starts found (sym is) in
-    let called : found.name ≡ name = bytes_eq-true found.name name here.1 in (
-      λ so. Any-intro P starts found here.0 (decides.0 so),
-      λ some. decides.1 (Any-elim P starts (P found)
-          (λ other there holds. subst P (one_start starts distinct found other here.0 there (named other holds ∙ sym called)) holds) some),
+pub decides_start : (starts : List Start) → HaveDistinctNames starts → (name : List ℕ) (start : Start) (P : Start → Type 0)
+    (answer : Bool) → Some start ≡ find (is_start_of name) starts → ((start : Start) → P start → start.name ≡ name)
+    → (IsTrue answer ↔ P start) → IsTrue answer ↔ Any P starts
+decides_start starts distinct name start P answer is named decides =
+    let here = find-some (is_start_of name) starts start (sym is) in
+    let called : start.name ≡ name = bytes_eq-true start.name name here.1 in (
+      λ so. Any-intro P starts start here.0 (decides.0 so),
+      λ some. decides.1 (Any-elim P starts (P start)
+          (λ other there holds. subst P (one_start starts distinct start other here.0 there (named other holds ∙ sym called)) holds) some),
     )
 
 -- where nothing is said of the name, there are no facts about it

@@ -19,15 +19,15 @@ use Rattle.refutecheck.specs.declared.verdict.Verdict.TheVariants as verdict
 
 -- a clause is answered exactly where the fact holds, and the list has just its literals
 abbrev pub IsClauseWhere : Type 0 → (Literal → Type 0) → Option (List Literal) → Type 0
-IsClauseWhere holds clause found = MatchOption found (¬ holds) (λ literals. holds × IsListOf clause literals)
+IsClauseWhere holds clause answer = MatchOption answer (¬ holds) (λ literals. holds × IsListOf clause literals)
 
 -- a list is answered exactly where the premise is one of the universe, and it has just the literals of its clause
 abbrev pub IsAnswer : Universe → Premise → Option (List Literal) → Type 0
-IsAnswer u premise found = IsClauseWhere (IsPremise u premise) (IsInPremise u premise) found
+IsAnswer u premise answer = IsClauseWhere (IsPremise u premise) (IsInPremise u premise) answer
 
 -- a list is answered exactly where the line is good behind the earlier ones, and it has just the literals of its clause
 abbrev pub IsLineAnswer : Universe → List Line → Line → Option (List Literal) → Type 0
-IsLineAnswer u earlier line found = IsClauseWhere (IsGoodLine u earlier line) (IsInLine u line) found
+IsLineAnswer u earlier line answer = IsClauseWhere (IsGoodLine u earlier line) (IsInLine u line) answer
 
 -- the list has just the literals of the clause of the line
 abbrev pub IsClauseOf : Universe → Line → List Literal → Type 0
@@ -35,8 +35,8 @@ IsClauseOf u line literals = IsListOf (IsInLine u line) literals
 
 -- the literal says that the pair isn't selected, or that one is whose package matches an atom of the list
 abbrev pub IsOutOrMatching : Universe → ℕ → List Atom → Literal → Type 0
-IsOutOrMatching u number atoms found =
-    (found ≡ literal.Unselected number) ⊎ Selects u (λ other. MatchesSome other atoms) found
+IsOutOrMatching u number atoms disjunct =
+    (disjunct ≡ literal.Unselected number) ⊎ Selects u (λ other. MatchesSome other atoms) disjunct
 
 -- a list is answered exactly where there is a clause of atoms, and it has just the literals of the pair and these atoms
 abbrev pub IsNeedOf : Universe → ℕ → Option (List Atom) → Option (List Literal) → Type 0
@@ -66,8 +66,8 @@ pub record AreJudged (u : Universe) (lines : List Line) (clauses : List (List Li
 
 -- the line is a premise, and the one at this place of the list is the same
 abbrev pub IsRepeatedAt : List Line → ℕ → Line → Type 0
-IsRepeatedAt lines place found =
-    ((premise : Premise) × (found ≡ line.Premise premise)) × (slice_get lines place ≡ Some found)
+IsRepeatedAt lines place repeated =
+    ((premise : Premise) × (repeated ≡ line.Premise premise)) × (slice_get lines place ≡ Some repeated)
 
 -- there is a last clause, and it has no literal
 abbrev pub EndsWithNone : List (List Literal) → Type 0

@@ -18,7 +18,7 @@ GoesThrough clauses falses (hint ∷ rest) last = HasAt clauses hint (λ clause.
 
 -- two tests are true of the same literals
 abbrev pub AreAlike : (Literal → Type 0) → (Literal → Type 0) → Type 0
-AreAlike falses others = (found : Literal) → falses found ↔ others found
+AreAlike falses others = (literal : Literal) → falses literal ↔ others literal
 
 -- the answer is whether at most one literal of the clause is open, and if so its negation is false afterwards
 abbrev pub Narrows : (Literal → Type 0) → (Literal → Type 0) → Bool → (Literal → Type 0) → Type 0

@@ -7,5 +7,5 @@ use Rattle.refutecheck.specs.declared.open.Open.TheVariants as open_literals
 -- what of the clause isn't false: nothing, one literal alone, or more
 abbrev pub IsOpenOf : (Literal → Type 0) → (Literal → Type 0) → Open → Type 0
 IsOpenOf falses clause open_literals.Nothing = IsAllFalse falses clause
-IsOpenOf falses clause (open_literals.One found) = IsOpen falses clause found × HasOneOpen falses clause
+IsOpenOf falses clause (open_literals.One literal) = IsOpen falses clause literal × HasOneOpen falses clause
 IsOpenOf falses clause open_literals.More = ¬ HasOneOpen falses clause

@@ -17,8 +17,8 @@ IsSought (sought.InVersion name version) pkg = IsOf name.now version.now pkg
 
 -- the literal says that the pair at this place is selected, and its package has the property
 abbrev pub IsSelectedAt : List Pkg → (Pkg → Type 0) → ℕ → Literal → Type 0
-IsSelectedAt packages P place found =
-    (found ≡ literal.Selected (place + 1)) × ((pkg : Pkg) × (slice_get packages place ≡ Some pkg) × P pkg)
+IsSelectedAt packages P place disjunct =
+    (disjunct ≡ literal.Selected (place + 1)) × ((pkg : Pkg) × (slice_get packages place ≡ Some pkg) × P pkg)
 
 -- the goal is that nothing is removed, as a test
 abbrev pub is_no_remove : Goal → Bool

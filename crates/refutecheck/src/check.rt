@@ -12,8 +12,8 @@ use crate::follow::follows;
 use crate::kept::Kept;
 use crate::premise::clause_of;
 use crate::premises::Premises;
-use crate::repeated::repeated;
-use crate::seen::Seen;
+use crate::repeated::earlier_place;
+use crate::seen::PremisePlaces;
 use crate::verdict::Verdict;
 use refutation::{
     Line, Literal, Refutation, empty_list_is_good, follows_from_lists, good_lines_grow,
@@ -41,7 +41,9 @@ fn derived_clause(
     literals: &[Literal],
     hints: &[u32],
 ) -> Result<Option<Items<Literal>>, AllocError>
-    ensures { IfOk result (IsClauseWhere (EndsFalse Contains clauses.now (Contains literals.now) hints.now) (Contains literals.now)) }
+    ensures { IfOk result
+        (IsClauseWhere (EndsFalse Contains clauses.now (Contains literals.now) hints.now)
+        (Contains literals.now)) }
 {
     if !follows(alloc, clauses, literals, hints)? {
         return Ok(None);
@@ -56,23 +58,24 @@ fn clause_of_line(
     clauses: &Kept,
     line: &Line,
 ) -> Result<Option<Items<Literal>>, AllocError>
-    ensures { IfOk result (λ found. (earlier : List LineValue) → AllZip (IsClauseOf premises.now) earlier clauses.now
-        → IsLineAnswer premises.now earlier line.now found) }
+    ensures { IfOk result
+        (λ answer. (earlier : List LineValue) → AllZip (IsClauseOf premises.now) earlier clauses.now
+        → IsLineAnswer premises.now earlier line.now answer) }
 {
     follows_from_lists();
     match line {
         Line::Premise(premise) => {
-            let found = clause_of(premises, premise)?;
-            Ok(found)
+            let answer = clause_of(premises, premise)?;
+            Ok(answer)
         }
         Line::Derived(literals, hints) => {
-            let found = derived_clause(
+            let answer = derived_clause(
                 premises.alloc(),
                 clauses,
                 literals.as_slice(),
                 hints.as_slice(),
             )?;
-            Ok(found)
+            Ok(answer)
         }
     }
 }
@@ -84,14 +87,17 @@ fn keep_line<'l>(
     earlier: &[Line],
     line: &'l Line,
     kept: &mut Kept,
-    seen: &mut Seen<'l>,
+    seen: &mut PremisePlaces<'l>,
 ) -> Result<bool, AllocError>
     requires { AreJudged premises.now earlier.now kept.old }
-    ensures good { IfOk result (λ is_good. IsTrue is_good → AreJudged premises.now (earlier.now ++ line.now ∷ []) kept.new) }
-    ensures bad { IfOk result (λ is_good. is_good ≡ false → ¬ IsGoodLine premises.now earlier.now line.now) }
+    ensures good { IfOk result
+        (λ is_good. IsTrue is_good
+        → AreJudged premises.now (earlier.now ++ line.now ∷ []) kept.new) }
+    ensures bad { IfOk result
+        (λ is_good. is_good ≡ false → ¬ IsGoodLine premises.now earlier.now line.now) }
 {
     good_lines_grow();
-    if let Some(place) = repeated(seen, earlier, line) {
+    if let Some(place) = earlier_place(seen, earlier, line) {
         kept.push_again(place)?;
         return Ok(true);
     }
@@ -111,7 +117,7 @@ fn judge(premises: &Premises<'_, '_, '_>, lines: &[Line]) -> Result<Verdict, All
 {
     empty_list_is_good();
     let mut kept = Kept::new(premises.alloc());
-    let mut seen = Seen::new(premises.alloc());
+    let mut seen = PremisePlaces::new(premises.alloc());
     for (place, line) in lines.iter().enumerate() {
         if !keep_line(premises, &lines[..place], line, &mut kept, &mut seen)? {
             return Ok(Verdict::No(place + 1));

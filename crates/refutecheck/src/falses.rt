@@ -39,7 +39,9 @@ impl Falses {
 
     /// Makes the literal false. Memory alone can fail.
     pub fn insert(&mut self, literal: Literal) -> Result<(), AllocError>
-        ensures { OnOk result ((found : Literal) → IsFalse self.new found ↔ (IsFalse self.old found ⊎ (found ≡ literal))) }
+        ensures { OnOk result
+            ((other : Literal) → IsFalse self.new other
+            ↔ (IsFalse self.old other ⊎ (other ≡ literal))) }
     {
         match literal {
             Literal::Selected(number) => self.selected.insert(number)?,
@@ -50,7 +52,9 @@ impl Falses {
 
     /// The literals of the list. Memory alone can fail. Linear in them.
     pub fn of(alloc: Global, literals: &[Literal]) -> Result<Falses, AllocError>
-        ensures { IfOk result (λ falses. (literal : Literal) → IsFalse falses literal ↔ Contains literals.now literal) }
+        ensures { IfOk result
+            (λ falses. (literal : Literal) → IsFalse falses literal
+            ↔ Contains literals.now literal) }
     {
         let mut falses = Falses::new(alloc);
         for literal in literals {

@@ -25,7 +25,8 @@ fn negation(literal: Literal) -> Literal
 
 // Makes the negation of the one literal that isn't false yet false. Answers whether there is at most one.
 fn narrow(falses: &mut Falses, clause: &[Literal]) -> Result<bool, AllocError>
-    ensures { IfOk result (λ is_one. Narrows (IsFalse falses.old) (Contains clause.now) is_one (IsFalse falses.new)) }
+    ensures { IfOk result
+        (λ is_one. Narrows (IsFalse falses.old) (Contains clause.now) is_one (IsFalse falses.new)) }
 {
     match open_of(falses, clause) {
         Open::Nothing => Ok(true),
@@ -39,7 +40,8 @@ fn narrow(falses: &mut Falses, clause: &[Literal]) -> Result<bool, AllocError>
 
 // Goes on to this hint, which is not the last. Answers whether it is a clause with at most one literal that isn't false.
 fn go_on(falses: &mut Falses, clauses: &Kept, hint: u32) -> Result<bool, AllocError>
-    ensures { IfOk result (λ went. GoesOn clauses.now hint (IsFalse falses.old) went (IsFalse falses.new)) }
+    ensures { IfOk result
+        (λ went. GoesOn clauses.now hint (IsFalse falses.old) went (IsFalse falses.new)) }
 {
     match clauses.at(hint) {
         None => Ok(false),
@@ -53,7 +55,8 @@ fn go_on(falses: &mut Falses, clauses: &Kept, hint: u32) -> Result<bool, AllocEr
 // Goes through these hints, none of which is the last. Answers whether each is a clause with at most one literal that
 // isn't false when its turn comes.
 fn go_through(falses: &mut Falses, clauses: &Kept, hints: &[u32]) -> Result<bool, AllocError>
-    ensures { IfOk result (λ went. (last : ℕ) → GoesThrough clauses.now (IsFalse falses.old) hints.now last
+    ensures { IfOk result
+        (λ went. (last : ℕ) → GoesThrough clauses.now (IsFalse falses.old) hints.now last
         ↔ (IsTrue went × IsFalseAt clauses.now (IsFalse falses.new) last)) }
 {
     for hint in hints {
@@ -81,7 +84,8 @@ fn ends_false(
     first: &[u32],
     last: u32,
 ) -> Result<bool, AllocError>
-    ensures { IfOk result (λ ends. IsTrue ends ↔ GoesThrough clauses.now (IsFalse falses.old) first.now last) }
+    ensures { IfOk result
+        (λ ends. IsTrue ends ↔ GoesThrough clauses.now (IsFalse falses.old) first.now last) }
 {
     if !go_through(falses, clauses, first)? {
         return Ok(false);
@@ -97,7 +101,9 @@ pub fn follows(
     literals: &[Literal],
     hints: &[u32],
 ) -> Result<bool, AllocError>
-    ensures { IfOk result (λ follows. IsTrue follows ↔ EndsFalse Contains clauses.now (Contains literals.now) hints.now) }
+    ensures { IfOk result
+        (λ follows. IsTrue follows
+        ↔ EndsFalse Contains clauses.now (Contains literals.now) hints.now) }
 {
     match hints.split_last() {
         None => Ok(false),

@@ -27,7 +27,8 @@ fn candidate_clause(
     name: &[u8],
 ) -> Result<Items<Literal>, AllocError>
     ensures { IfOk result (IsListOf (Selects premises.now
-        (λ pkg. MatchOption (candidate_of premises.now name.now) ⊥ (λ candidate. IsOf name.now candidate pkg)))) }
+        (λ pkg. MatchOption (candidate_of premises.now name.now) ⊥
+        (λ candidate. IsOf name.now candidate pkg)))) }
 {
     match premises.candidate(name) {
         None => Ok(Items::new(Vec::new(premises.alloc()))),
@@ -43,7 +44,9 @@ fn clause_asked_by(
     premises: &Premises<'_, '_, '_>,
     goal: &Goal,
 ) -> Result<Option<Items<Literal>>, AllocError>
-    ensures { IfOk result (IsClauseWhere (AsksForMember goal.now) (Selects premises.now (IsAskedBy premises.now goal.now))) }
+    ensures { IfOk result
+        (IsClauseWhere (AsksForMember goal.now)
+        (Selects premises.now (IsAskedBy premises.now goal.now))) }
 {
     match goal {
         Goal::Install(name, restriction) => {
@@ -71,8 +74,8 @@ pub fn goal_clause(
     match premises.goal_at(number) {
         None => Ok(None),
         Some(goal) => {
-            let found = clause_asked_by(premises, goal)?;
-            Ok(found)
+            let answer = clause_asked_by(premises, goal)?;
+            Ok(answer)
         }
     }
 }
@@ -84,7 +87,8 @@ fn is_lower_than_candidate(
     version: &Version<'_>,
 ) -> bool
     ensures { IsTrue result
-        ↔ IsLowerThanCandidate (option_copied standing.entry) (option_copied candidate.entry) version.now }
+        ↔ IsLowerThanCandidate (option_copied standing.entry)
+        (option_copied candidate.entry) version.now }
 {
     match (standing, candidate) {
         (Some(standing), Some(candidate)) => standing.cmp(candidate).is_lt()
@@ -96,7 +100,8 @@ fn is_lower_than_candidate(
 // Whether the package of the pair upgrades what the start says.
 fn is_upgrade_from(premises: &Premises<'_, '_, '_>, pair: &Pair<'_, '_>, start: &Start<'_>) -> bool
     ensures { IsTrue result ↔ ((start.now.name ≡ pair.now.pkg.name) × (IsTrue start.now.is_held → ⊥)
-        × IsLowerThanCandidate start.now.standing (candidate_of premises.now start.now.name) pair.now.pkg.version) }
+        × IsLowerThanCandidate start.now.standing
+        (candidate_of premises.now start.now.name) pair.now.pkg.version) }
 {
     is_same(start.name(), pair.name())
         && !start.is_held()
@@ -118,7 +123,8 @@ fn is_upgrade(premises: &Premises<'_, '_, '_>, pair: &Pair<'_, '_>) -> bool
 
 fn is_pair_of_upgrade(premises: &Premises<'_, '_, '_>, number: u32) -> bool
     ensures { IsTrue result
-        ↔ PairHas premises.now number (λ pkg. Any (IsUpgradeFrom premises.now pkg) premises.now.starts) }
+        ↔ PairHas premises.now number
+        (λ pkg. Any (IsUpgradeFrom premises.now pkg) premises.now.starts) }
 {
     match premises.pair_at(number) {
         None => false,
@@ -132,25 +138,27 @@ fn clause_said_by(
     goal: &Goal,
     pair: u32,
 ) -> Result<Option<Items<Literal>>, AllocError>
-    ensures { IfOk result (IsClauseWhere (PairHas premises.now pair (SpeaksOf premises.now goal.now)) (IsSaidBy goal.now pair)) }
+    ensures { IfOk result
+        (IsClauseWhere (PairHas premises.now pair (SpeaksOf premises.now goal.now))
+        (IsSaidBy goal.now pair)) }
 {
     match goal {
         Goal::Install(_, _) => Ok(None),
         Goal::Remove(name) => {
             let is_premise = is_named(premises, pair, name.as_bytes());
-            let found = alone_if(premises.alloc(), is_premise, Literal::Unselected(pair))?;
-            Ok(found)
+            let answer = alone_if(premises.alloc(), is_premise, Literal::Unselected(pair))?;
+            Ok(answer)
         }
         Goal::Purge(name) => {
             let is_premise = is_named(premises, pair, name.as_bytes());
-            let found = alone_if(premises.alloc(), is_premise, Literal::Unselected(pair))?;
-            Ok(found)
+            let answer = alone_if(premises.alloc(), is_premise, Literal::Unselected(pair))?;
+            Ok(answer)
         }
         Goal::Upgrade(_) => Ok(None),
         Goal::UpgradeAll => {
             let is_premise = is_pair_of_upgrade(premises, pair);
-            let found = alone_if(premises.alloc(), is_premise, Literal::Selected(pair))?;
-            Ok(found)
+            let answer = alone_if(premises.alloc(), is_premise, Literal::Selected(pair))?;
+            Ok(answer)
         }
         Goal::NoRemove => Ok(None),
     }
@@ -167,8 +175,8 @@ pub fn goal_on_clause(
     match premises.goal_at(number) {
         None => Ok(None),
         Some(goal) => {
-            let found = clause_said_by(premises, goal, pair)?;
-            Ok(found)
+            let answer = clause_said_by(premises, goal, pair)?;
+            Ok(answer)
         }
     }
 }

@@ -41,7 +41,7 @@ pub fn alone_if(
     is_premise: bool,
     literal: Literal,
 ) -> Result<Option<Items<Literal>>, AllocError>
-    ensures { IfOk result (IsClauseWhere (IsTrue is_premise) (λ found. found ≡ literal)) }
+    ensures { IfOk result (IsClauseWhere (IsTrue is_premise) (λ disjunct. disjunct ≡ literal)) }
 {
     if !is_premise {
         return Ok(None);

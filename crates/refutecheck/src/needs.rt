@@ -63,8 +63,8 @@ pub fn pre_depends_clause(
     let Some(read) = premises.read_at(number)? else {
         return Ok(None);
     };
-    let found = need_of(premises, number, read.pkg().pre_depends(), clause)?;
-    Ok(found)
+    let answer = need_of(premises, number, read.pkg().pre_depends(), clause)?;
+    Ok(answer)
 }
 
 /// The clause of a pair and a clause of its Depends. Memory alone can fail. Linear in the package, with two binary searches
@@ -79,6 +79,6 @@ pub fn depends_clause(
     let Some(read) = premises.read_at(number)? else {
         return Ok(None);
     };
-    let found = need_of(premises, number, read.pkg().depends(), clause)?;
-    Ok(found)
+    let answer = need_of(premises, number, read.pkg().depends(), clause)?;
+    Ok(answer)
 }

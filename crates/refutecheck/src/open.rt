@@ -39,7 +39,7 @@ fn open_with(so_far: Open, falses: &Falses, literal: Literal) -> Open
     match so_far {
         _ if falses.has(literal) => so_far,
         Open::Nothing => Open::One(literal),
-        Open::One(found) if is_same(found, literal) => so_far,
+        Open::One(other) if is_same(other, literal) => so_far,
         Open::One(_) => Open::More,
         Open::More => Open::More,
     }

@@ -24,7 +24,8 @@ pub fn is_named(premises: &Premises<'_, '_, '_>, number: u32, name: &[u8]) -> bo
 }
 
 fn are_of_one_name(premises: &Premises<'_, '_, '_>, number: u32, other: u32) -> bool
-    ensures { IsTrue result ↔ PairsAre premises.now number other (λ pkg found. found.name ≡ pkg.name) }
+    ensures { IsTrue result
+        ↔ PairsAre premises.now number other (λ pkg other_pkg. other_pkg.name ≡ pkg.name) }
 {
     match premises.pair_at(number) {
         None => false,
@@ -69,8 +70,8 @@ pub fn same_clause(
     ensures { IfOk result (IsAnswer premises.now (Premise.Same number other)) }
 {
     let is_premise = is_same_premise(premises, number, other);
-    let found = either_out_if(premises.alloc(), is_premise, number, other)?;
-    Ok(found)
+    let answer = either_out_if(premises.alloc(), is_premise, number, other)?;
+    Ok(answer)
 }
 
 /// The clause of a pair and one that it conflicts with. Memory alone can fail. Linear in both packages, and for each atom
@@ -89,8 +90,8 @@ pub fn conflicts_clause(
         return Ok(None);
     };
     let is_premise = conflicts_with_other(one.pkg(), two.pkg());
-    let found = either_out_if(premises.alloc(), is_premise, number, other)?;
-    Ok(found)
+    let answer = either_out_if(premises.alloc(), is_premise, number, other)?;
+    Ok(answer)
 }
 
 /// The clause of a pair and one that it breaks. Memory alone can fail. Linear in both packages, and for each atom in what
@@ -109,6 +110,6 @@ pub fn breaks_clause(
         return Ok(None);
     };
     let is_premise = breaks_another(one.pkg(), two.pkg());
-    let found = either_out_if(premises.alloc(), is_premise, number, other)?;
-    Ok(found)
+    let answer = either_out_if(premises.alloc(), is_premise, number, other)?;
+    Ok(answer)
 }

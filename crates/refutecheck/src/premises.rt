@@ -87,14 +87,16 @@ impl<'u, 'p, 'a> Premises<'u, 'p, 'a> {
 
     // The pair at this place, counted from 0. Its package isn't read.
     fn pair_in(&self, place: usize) -> Option<&'u Pair<'p, 'a>>
-        ensures { option_map (λ pair. pair.now.pkg) result ≡ slice_get (packages_of self.now.pairs) place }
+        ensures { option_map (λ pair. pair.now.pkg) result
+            ≡ slice_get (packages_of self.now.pairs) place }
     {
         self.universe.pairs().get(place)
     }
 
     /// The pair of this number. Its package isn't read.
     pub fn pair_at(&self, number: u32) -> Option<&'u Pair<'p, 'a>>
-        ensures { option_map (λ pair. pair.now.pkg) result ≡ item_at (packages_of self.now.pairs) number }
+        ensures { option_map (λ pair. pair.now.pkg) result
+            ≡ item_at (packages_of self.now.pairs) number }
     {
         let place = number.checked_sub(1)?;
         self.pair_in(place as usize)
@@ -102,7 +104,7 @@ impl<'u, 'p, 'a> Premises<'u, 'p, 'a> {
 
     /// The package of the pair of this number, which is read if it doesn't stand. Memory alone can fail. Linear in it.
     pub fn read_at(&self, number: u32) -> Result<Option<CountingPkg<'u, 'a>>, AllocError>
-        ensures { IfOk result (λ found. found ≡ item_at (packages_of self.now.pairs) number) }
+        ensures { IfOk result (λ pkg. pkg ≡ item_at (packages_of self.now.pairs) number) }
     {
         match self.pair_at(number) {
             None => Ok(None),
@@ -129,8 +131,10 @@ impl<'u, 'p, 'a> Premises<'u, 'p, 'a> {
         place: usize,
         sought: Sought<'_, '_>,
     ) -> Result<(), AllocError>
-        ensures { OnOk result ((found : Literal) → Contains literals.new.items found ↔ (Contains literals.old.items found
-            ⊎ IsSelectedAt (packages_of self.now.pairs) (IsSought sought.entry) place found)) }
+        ensures { OnOk result
+            ((literal : Literal) → Contains literals.new.items literal
+            ↔ (Contains literals.old.items literal
+            ⊎ IsSelectedAt (packages_of self.now.pairs) (IsSought sought.entry) place literal)) }
     {
         match self.pair_in(place) {
             None => Ok(()),
@@ -151,8 +155,12 @@ impl<'u, 'p, 'a> Premises<'u, 'p, 'a> {
         places: &[usize],
         sought: Sought<'_, '_>,
     ) -> Result<(), AllocError>
-        ensures { OnOk result ((found : Literal) → Contains literals.new.items found ↔ (Contains literals.old.items found
-            ⊎ Any (λ place. IsSelectedAt (packages_of self.now.pairs) (IsSought sought.entry) place found) places.now)) }
+        ensures { OnOk result
+            ((literal : Literal) → Contains literals.new.items literal
+            ↔ (Contains literals.old.items literal
+            ⊎ Any (λ place.
+            IsSelectedAt (packages_of self.now.pairs)
+            (IsSought sought.entry) place literal) places.now)) }
     {
         for place in places {
             self.push_place(literals, *place, sought)?;
@@ -190,8 +198,10 @@ impl<'u, 'p, 'a> Premises<'u, 'p, 'a> {
         literals: &mut Vec<Literal>,
         atom: &Atom<'_>,
     ) -> Result<(), AllocError>
-        ensures { OnOk result ((found : Literal) → Contains literals.new.items found ↔ (Contains literals.old.items found
-            ⊎ Selects self.now (λ pkg. Matches pkg atom.now) found)) }
+        ensures { OnOk result
+            ((literal : Literal) → Contains literals.new.items literal
+            ↔ (Contains literals.old.items literal
+            ⊎ Selects self.now (λ pkg. Matches pkg atom.now) literal)) }
     {
         let mut ticks = Ticks::new();
         let places = self
@@ -212,7 +222,7 @@ impl<'u, 'p, 'a> Premises<'u, 'p, 'a> {
 
     /// What the start says of the name, if it knows it.
     pub fn start(&self, name: &[u8]) -> Option<&'u Start<'a>>
-        ensures found { option_copied result ≡ start_in self.now name.now }
+        ensures start { option_copied result ≡ start_in self.now name.now }
         ensures distinct { HaveDistinctNames self.now.starts }
     {
         self.universe.start(name)

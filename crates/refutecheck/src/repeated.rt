@@ -3,7 +3,7 @@
 ghost use Rattle.std.specs.Prelude.{◌≡◌, Some, IfSome, IsTrue, slice_get};
 ghost use Rattle.refutecheck.specs.Answer.{IsRepeatedAt};
 
-use crate::seen::Seen;
+use crate::seen::PremisePlaces;
 use refutation::{Line, Premise};
 
 // Whether the premises are the same. Where they are and it isn't seen, the clause is made again.
@@ -35,13 +35,13 @@ fn is_premise_at(lines: &[Line], place: usize, premise: &Premise) -> bool
     ensures { IsTrue result → slice_get lines.now place ≡ Some (Line.Premise premise.now) }
 {
     match lines.get(place) {
-        Some(Line::Premise(found)) => is_same(found, premise),
+        Some(Line::Premise(other)) => is_same(other, premise),
         _ => false,
     }
 }
 
 /// The place of an earlier line that is the same premise, as far as it is known.
-pub fn repeated(seen: &Seen<'_>, earlier: &[Line], line: &Line) -> Option<usize>
+pub fn earlier_place(seen: &PremisePlaces<'_>, earlier: &[Line], line: &Line) -> Option<usize>
     ensures { IfSome result (λ place. IsRepeatedAt earlier.now place line.now) }
 {
     let Line::Premise(premise) = line else {

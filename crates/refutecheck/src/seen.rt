@@ -37,14 +37,14 @@ fn key_of(premise: &Premise) -> Key<'_> {
 
 /// The place of the first line with each premise.
 #[derive(Drop)]
-pub struct Seen<'l> {
+pub struct PremisePlaces<'l> {
     places: HashMap<Key<'l>, usize>,
 }
 
-impl<'l> Seen<'l> {
+impl<'l> PremisePlaces<'l> {
     /// None.
-    pub fn new(alloc: Global) -> Seen<'l> {
-        Seen {
+    pub fn new(alloc: Global) -> PremisePlaces<'l> {
+        PremisePlaces {
             places: HashMap::new(alloc),
         }
     }

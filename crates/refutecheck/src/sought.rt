@@ -47,7 +47,8 @@ fn meets(version: &Version<'_>, restriction: &Option<Restriction>) -> bool
 
 // Whether the package is of the name, in a version that meets the restriction, if there is one.
 fn is_meeting(pair: &Pair<'_, '_>, name: &[u8], restriction: &Option<Restriction>) -> bool
-    ensures { IsTrue result ↔ ((pair.now.pkg.name ≡ name.now) × Meets pair.now.pkg.version restriction.now) }
+    ensures { IsTrue result
+        ↔ ((pair.now.pkg.name ≡ name.now) × Meets pair.now.pkg.version restriction.now) }
 {
     is_same(pair.name(), name) && meets(&pair.version(), restriction)
 }

@@ -18,7 +18,8 @@ use std::alloc::AllocError;
 use universe::{Pair, Start};
 
 fn is_version(standing: Option<&Version<'_>>, version: &Version<'_>) -> bool
-    ensures { IsTrue result ↔ MatchOption (option_copied standing.entry) ⊥ (SameVersion version.now) }
+    ensures { IsTrue result
+        ↔ MatchOption (option_copied standing.entry) ⊥ (SameVersion version.now) }
 {
     match standing {
         None => false,
@@ -36,13 +37,16 @@ fn is_held_at(start: &Start<'_>, pair: &Pair<'_, '_>) -> bool
 }
 
 fn is_essential_at(start: &Start<'_>, name: &[u8]) -> bool
-    ensures { IsTrue result ↔ ((start.now.name ≡ name.now) × IsTrue start.now.is_essential × IsTrue start.now.is_present) }
+    ensures { IsTrue result
+        ↔ ((start.now.name ≡ name.now) × IsTrue start.now.is_essential
+        × IsTrue start.now.is_present) }
 {
     is_same(start.name(), name) && start.is_essential() && start.is_present()
 }
 
 fn is_standing_at(start: &Start<'_>, name: &[u8]) -> bool
-    ensures { IsTrue result ↔ ((start.now.name ≡ name.now) × MatchOption start.now.standing ⊥ (λ _. ⊤)) }
+    ensures { IsTrue result
+        ↔ ((start.now.name ≡ name.now) × MatchOption start.now.standing ⊥ (λ _. ⊤)) }
 {
     is_same(start.name(), name) && start.standing().is_some()
 }
@@ -97,8 +101,8 @@ pub fn hold_clause(
     ensures { IfOk result (IsAnswer premises.now (Premise.Hold number)) }
 {
     let is_premise = is_hold_premise(premises, number);
-    let found = alone_if(premises.alloc(), is_premise, Literal::Selected(number))?;
-    Ok(found)
+    let answer = alone_if(premises.alloc(), is_premise, Literal::Selected(number))?;
+    Ok(answer)
 }
 
 /// The clause of an essential name that was present at the start. Memory alone can fail. Linear in the packages that have

@@ -5,9 +5,9 @@ use Rattle.std.specs.Option.{option_or}
 use Rattle.stanza.specs.Field.{FieldText, same_name}
 use Rattle.relation.specs.PkgFields.{field_named, fields_in, first_named, with_field}
 
-choice : {A : Type 0} (test : Bool) (x : A) (found later : Option A) → cond test (Some x) (option_or found later) ≡ option_or (cond test (Some x) found) later
-choice true x found later = refl
-choice false x found later = refl
+choice : {A : Type 0} (test : Bool) (x : A) (earlier later : Option A) → cond test (Some x) (option_or earlier later) ≡ option_or (cond test (Some x) earlier) later
+choice true x earlier later = refl
+choice false x earlier later = refl
 
 find_more : {A : Type 0} (test : A → Bool) (xs : List A) (x : A) → find test (xs ++ x ∷ []) ≡ option_or (find test xs) (cond (test x) (Some x) None)
 find_more test [] x = refl

@@ -7,11 +7,11 @@ use Rattle.relation_text.specs.Refusal.{bad_version_of, fault_of, separator_of}
 use Rattle.relation_text.specs.Spelling.{parts_of}
 use Rattle.relation.specs.Value.{HaveGoodVersions}
 use Rattle.relation.specs.declared.fields.PkgFields.{PkgFields}
-use Rattle.relation_text.specs.declared.shape.Form.{Form}
-use Rattle.relation_text.specs.declared.shape.Form.TheVariants.{Clauses, Atoms, Provides}
+use Rattle.relation_text.specs.declared.shape.RelationForm.{RelationForm}
+use Rattle.relation_text.specs.declared.shape.RelationForm.TheVariants.{Clauses, Atoms, Provides}
 use Rattle.relation.proofs.GoodVersions.{good_unless_refused, none_mapped, none_or}
 
-pub good_field : (form : Form) (field : FieldText) → relation_fault_in form (Some field) ≡ None → HaveGoodVersions (parts_of (separator_of form) field.value)
+pub good_field : (form : RelationForm) (field : FieldText) → relation_fault_in form (Some field) ≡ None → HaveGoodVersions (parts_of (separator_of form) field.value)
 good_field form field e = good_unless_refused form field.value (none_mapped (on_line field.line) (fault_of form field.value) e)
 
 pub record HaveNoFault (fields : PkgFields) : Type 0 where
@@ -36,13 +36,13 @@ each_without_fault fields e =
       provides = breaks.1;
     }
 
-good_blank : (form : Form) → HaveGoodVersions (parts_of (separator_of form) [])
+good_blank : (form : RelationForm) → HaveGoodVersions (parts_of (separator_of form) [])
 unfolding bad_version_of
 good_blank Clauses = (refl, tt)
 good_blank Atoms = (refl, tt)
 good_blank Provides = (refl, tt)
 
-good_in : (form : Form) (field : Option FieldText) → relation_fault_in form field ≡ None → HaveGoodVersions (parts_of (separator_of form) (value_in field))
+good_in : (form : RelationForm) (field : Option FieldText) → relation_fault_in form field ≡ None → HaveGoodVersions (parts_of (separator_of form) (value_in field))
 good_in form None e = good_blank form
 good_in form (Some field) e = good_field form field e
 

@@ -6,9 +6,9 @@ use Rattle.relation_text.specs.Refusal.{sooner, least_refusal, fault_of, version
 use Rattle.relation_text.specs.Spelling.{parts_of, separates}
 use Rattle.relation.specs.Value.{HaveGoodVersions, HaveGoodParts}
 use Rattle.relation_text.specs.declared.cut.Separator.TheVariants.{Bar, Comma, CommaOrBar}
-use Rattle.relation_text.specs.declared.refusal.Refusal.{Refusal}
-use Rattle.relation_text.specs.declared.shape.Form.{Form}
-use Rattle.relation_text.specs.declared.shape.Place.TheVariants.{Between}
+use Rattle.relation_text.specs.declared.refusal.RelationRefusal.{RelationRefusal}
+use Rattle.relation_text.specs.declared.shape.RelationForm.{RelationForm}
+use Rattle.relation_text.specs.declared.shape.ShapePlace.TheVariants.{Between}
 use Rattle.relation.proofs.SplitTwice.{split_twice}
 
 pub none_mapped : {A B : Type 0} (f : A → B) (option : Option A) → option_map f option ≡ None → option ≡ None
@@ -19,11 +19,11 @@ pub none_or : {A : Type 0} (first second : Option A) → option_or first second 
 none_or None second e = (refl, e)
 none_or (Some x) second e = cc
 
-some_chosen : (test : Bool) (refusal other : Refusal) → cond test (Some other) (Some refusal) ≡ None → ⊥
+some_chosen : (test : Bool) (refusal other : RelationRefusal) → cond test (Some other) (Some refusal) ≡ None → ⊥
 some_chosen true refusal other e = cc
 some_chosen false refusal other e = cc
 
-none_sooner : (first second : Option Refusal) → sooner first second ≡ None → (first ≡ None) × (second ≡ None)
+none_sooner : (first second : Option RelationRefusal) → sooner first second ≡ None → (first ≡ None) × (second ≡ None)
 none_sooner None second e = (refl, e)
 none_sooner (Some refusal) None e = cc
 none_sooner (Some refusal) (Some other) e = absurd (some_chosen (ltb other.offset refusal.offset) refusal other e)
@@ -35,7 +35,7 @@ good_from offset (text ∷ texts) e =
     (none_mapped (λ at. bad_version_at (offset + at)) (bad_version_of text) parts.0, good_from (offset + length text + 1) texts parts.1)
 
 -- where a form has no refusal, its atoms' versions are good
-pub good_unless_refused : (form : Form) (value : List ℕ) → fault_of form value ≡ None → HaveGoodVersions (parts_of (separator_of form) value)
+pub good_unless_refused : (form : RelationForm) (value : List ℕ) → fault_of form value ≡ None → HaveGoodVersions (parts_of (separator_of form) value)
 unfolding fault_of
 good_unless_refused form value e =
     let texts = parts_of (separator_of form) value in

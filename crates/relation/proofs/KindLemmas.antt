@@ -90,22 +90,22 @@ pub called-12 : (name : List ℕ) → length name ≡ 12 → first_called all_ki
 called-12 name len = rw (not-called name 12 Package len refl, not-called name 12 Version len refl, not-called name 12 PreDepends len refl, not-called name 12 Depends len refl, not-called name 12 Conflicts len refl, not-called name 12 Breaks len refl, not-called name 12 Provides len refl, not-called name 12 Essential len refl, not-called name 12 Protected len refl) refl
 
 -- what is found among the kinds of a length decides the kind
-pub found-decides : (name : List ℕ) (found : Option Kind) → found ≡ first_called all_kinds name → (kind : Kind) → (found ≡ Some kind) ↔ IsOfKind kind name
-found-decides name found is kind = rw is (called-decides name kind)
+pub found-decides : (name : List ℕ) (answer : Option Kind) → answer ≡ first_called all_kinds name → (kind : Kind) → (answer ≡ Some kind) ↔ IsOfKind kind name
+found-decides name answer is kind = rw is (called-decides name kind)
 
 -- ---- a field of a kind
 
-or-none : {A : Type 0} (found : Option A) → option_or found None ≡ found
+or-none : {A : Type 0} (value : Option A) → option_or value None ≡ value
 or-none None = refl
 or-none (Some x) = refl
 
 -- where no kind was found, the name is of none
-pub none-called : (name : List ℕ) (found : Option Kind) → found ≡ None → ((kind : Kind) → (found ≡ Some kind) ↔ IsOfKind kind name) → (kind : Kind) → IsOfKind kind name → ⊥
-none-called name found none decides kind is = let some : found ≡ Some kind = (decides kind).1 is in cc
+pub none-called : (name : List ℕ) (answer : Option Kind) → answer ≡ None → ((kind : Kind) → (answer ≡ Some kind) ↔ IsOfKind kind name) → (kind : Kind) → IsOfKind kind name → ⊥
+none-called name answer none decides kind is = let some : answer ≡ Some kind = (decides kind).1 is in cc
 
 pub not-kind : (name : List ℕ) (kind : Kind) → ((kind : Kind) → IsOfKind kind name → ⊥) → same_name name (name_of kind) ≡ false
 not-kind name kind none = elim (cases_Bool (same_name name (name_of kind))) [ inl h ↦ absurd (none kind h) | inr h ↦ h ]
 
 -- a field of no kind adds nothing
-pub with-none : (found : PkgFields) (field : FieldText) → ((kind : Kind) → IsOfKind kind field.name → ⊥) → with_field found field ≡ found
-with-none found field none = rw (not-kind field.name Package none, not-kind field.name Version none, not-kind field.name PreDepends none, not-kind field.name Depends none, not-kind field.name Conflicts none, not-kind field.name Breaks none, not-kind field.name Provides none) (simp or-none)
+pub with-none : (pkg_fields : PkgFields) (field : FieldText) → ((kind : Kind) → IsOfKind kind field.name → ⊥) → with_field pkg_fields field ≡ pkg_fields
+with-none pkg_fields field none = rw (not-kind field.name Package none, not-kind field.name Version none, not-kind field.name PreDepends none, not-kind field.name Depends none, not-kind field.name Conflicts none, not-kind field.name Breaks none, not-kind field.name Provides none) (simp or-none)

@@ -16,7 +16,7 @@ if_named name field = if same_name field.name name then Some field else None
 
 -- the first field of this name, where this one was found so far and then this one comes
 abbrev pub first_named : List ℕ → Option FieldText → FieldText → Option FieldText
-first_named name found field = option_or found (if_named name field)
+first_named name earlier field = option_or earlier (if_named name field)
 
 -- the fields of a package among these, of a stanza that begins on this line
 abbrev pub fields_in : ℕ → List FieldText → PkgFields
@@ -33,15 +33,15 @@ fields_in line fields = record {
 
 -- these, and one more field
 abbrev pub with_field : PkgFields → FieldText → PkgFields
-with_field found field = record {
-  line = found.line;
-  name = first_named (codes "Package") found.name field;
-  version = first_named (codes "Version") found.version field;
-  pre_depends = first_named (codes "Pre-Depends") found.pre_depends field;
-  depends = first_named (codes "Depends") found.depends field;
-  conflicts = first_named (codes "Conflicts") found.conflicts field;
-  breaks = first_named (codes "Breaks") found.breaks field;
-  provides = first_named (codes "Provides") found.provides field;
+with_field pkg_fields field = record {
+  line = pkg_fields.line;
+  name = first_named (codes "Package") pkg_fields.name field;
+  version = first_named (codes "Version") pkg_fields.version field;
+  pre_depends = first_named (codes "Pre-Depends") pkg_fields.pre_depends field;
+  depends = first_named (codes "Depends") pkg_fields.depends field;
+  conflicts = first_named (codes "Conflicts") pkg_fields.conflicts field;
+  breaks = first_named (codes "Breaks") pkg_fields.breaks field;
+  provides = first_named (codes "Provides") pkg_fields.provides field;
 }
 
 -- the fields of a package in a stanza

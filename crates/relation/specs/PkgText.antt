@@ -20,8 +20,8 @@ use Rattle.relation_text.specs.declared.error.RelationFault.{RelationFault}
 use Rattle.relation_text.specs.declared.error.RelationFault.TheVariants as relation
 use Rattle.relation.specs.declared.error.RequiredField.TheVariants as required
 use Rattle.relation.specs.declared.fields.PkgFields.{PkgFields}
-use Rattle.relation_text.specs.declared.shape.Form.{Form}
-use Rattle.relation_text.specs.declared.shape.Form.TheVariants.{Clauses, Atoms, Provides}
+use Rattle.relation_text.specs.declared.shape.RelationForm.{RelationForm}
+use Rattle.relation_text.specs.declared.shape.RelationForm.TheVariants.{Clauses, Atoms, Provides}
 
 -- the value of a field, or nothing where there is none
 abbrev pub value_in : Option FieldText → List ℕ
@@ -55,11 +55,11 @@ on_line line (relation.BadName offset) = BadName line offset
 on_line line relation.TooLarge = TooLarge
 
 -- the refusal of a relation field
-abbrev pub relation_fault : Form → FieldText → Option PkgFault
+abbrev pub relation_fault : RelationForm → FieldText → Option PkgFault
 relation_fault form field = option_map (on_line field.line) (fault_of form field.value)
 
 -- the refusal of a relation field, if there is one
-abbrev pub relation_fault_in : Form → Option FieldText → Option PkgFault
+abbrev pub relation_fault_in : RelationForm → Option FieldText → Option PkgFault
 relation_fault_in form field = option_and_then (relation_fault form) field
 
 -- the first refusal of the relation fields, in this order

@@ -78,10 +78,10 @@ impl<'a> PkgFields<'a> {
     pub fn in_stanza(stanza: &Stanza<'a>) -> PkgFields<'a>
         ensures { result ≡ fields_of stanza.now }
     {
-        let mut found = PkgFields::new(stanza.line());
+        let mut pkg_fields = PkgFields::new(stanza.line());
         for field in stanza.fields() {
-            found.add(&field);
+            pkg_fields.add(&field);
         }
-        found
+        pkg_fields
     }
 }

@@ -8,7 +8,7 @@ ghost use Rattle.relation.specs.PkgText.{IsPkgFault, read_fields, read_pkg, read
 ghost use Rattle.relation_text.specs.Refusal.{fault_of};
 ghost use Rattle.relation_text.specs.Spelling.{atoms_between, clauses_of, provided_items_of};
 ghost use Rattle.relation_text.specs.declared.cut.Separator.TheVariants.{Comma};
-ghost use Rattle.relation_text.specs.declared.shape.Form.TheVariants.{Atoms, Clauses, Provides};
+ghost use Rattle.relation_text.specs.declared.shape.RelationForm.TheVariants.{Atoms, Clauses, Provides};
 
 use crate::atom::{Atom, Clause};
 use crate::error::{PkgError, PkgFault, RequiredField};
@@ -17,7 +17,7 @@ use crate::parse::{atoms_between, clauses_of, provided_items_of};
 use crate::pkg::{Pkg, Relations};
 use crate::provided::Provided;
 use debversion::Version;
-use relation_text::{Acceptor, Form, RelationFault, Separator, check, name_len};
+use relation_text::{Acceptor, RelationFault, RelationForm, Separator, check, name_len};
 use rules::is_name;
 use stanza::{Field, Stanza};
 use std::alloc::{AllocError, Global};
@@ -83,8 +83,13 @@ fn on_line(line: usize, fault: RelationFault) -> PkgFault
 }
 
 // Tests a value, by the tables where there are some.
-fn check_value(tables: Option<&Acceptor>, form: Form, value: &[u8]) -> Result<(), RelationFault>
-    ensures { MatchResult result (λ _. fault_of form value.now ≡ None) (λ fault. fault_of form value.now ≡ Some fault) }
+fn check_value(
+    tables: Option<&Acceptor>,
+    form: RelationForm,
+    value: &[u8],
+) -> Result<(), RelationFault>
+    ensures { MatchResult result (λ _. fault_of form value.now ≡ None)
+        (λ fault. fault_of form value.now ≡ Some fault) }
 {
     match tables {
         None => check(form, value),
@@ -94,10 +99,11 @@ fn check_value(tables: Option<&Acceptor>, form: Form, value: &[u8]) -> Result<()
 
 fn check_field(
     tables: Option<&Acceptor>,
-    form: Form,
+    form: RelationForm,
     field: &Option<Field<'_>>,
 ) -> Result<(), PkgFault>
-    ensures { MatchResult result (λ _. Spec.relation_fault_in form field.now ≡ None) (λ fault. Spec.relation_fault_in form field.now ≡ Some fault) }
+    ensures { MatchResult result (λ _. Spec.relation_fault_in form field.now ≡ None)
+        (λ fault. Spec.relation_fault_in form field.now ≡ Some fault) }
 {
     match field {
         None => Ok(()),
@@ -122,7 +128,8 @@ impl<'a> PkgFields<'a> {
     /// The version of the package, which Version has to give (Policy 5.6.12).
     pub fn version(&self) -> Result<Version<'a>, PkgFault>
         ensures { MatchResult result
-            (λ version. (Spec.pkg_version_fault self.now ≡ None) × (version ≡ value_in self.now.version))
+            (λ version. (Spec.pkg_version_fault self.now ≡ None)
+            × (version ≡ value_in self.now.version))
             (λ fault. Spec.pkg_version_fault self.now ≡ Some fault) }
     {
         version_in(self.line, &self.version)
@@ -131,19 +138,21 @@ impl<'a> PkgFields<'a> {
     // Tests the relation fields in the order Pre-Depends, Depends, Conflicts, Breaks, Provides.
     #[tactic(auto, unfolding(crate::specs::PkgText::relations_fault))]
     pub(crate) fn check_relations_by(&self, tables: Option<&Acceptor>) -> Result<(), PkgFault>
-        ensures { MatchResult result (λ _. relations_fault self.now ≡ None) (λ fault. relations_fault self.now ≡ Some fault) }
+        ensures { MatchResult result (λ _. relations_fault self.now ≡ None)
+            (λ fault. relations_fault self.now ≡ Some fault) }
     {
-        check_field(tables, Form::Clauses, &self.pre_depends)?;
-        check_field(tables, Form::Clauses, &self.depends)?;
-        check_field(tables, Form::Atoms, &self.conflicts)?;
-        check_field(tables, Form::Atoms, &self.breaks)?;
-        check_field(tables, Form::Provides, &self.provides)
+        check_field(tables, RelationForm::Clauses, &self.pre_depends)?;
+        check_field(tables, RelationForm::Clauses, &self.depends)?;
+        check_field(tables, RelationForm::Atoms, &self.conflicts)?;
+        check_field(tables, RelationForm::Atoms, &self.breaks)?;
+        check_field(tables, RelationForm::Provides, &self.provides)
     }
 
     /// Tests the relation fields in the order Pre-Depends, Depends, Conflicts, Breaks, Provides, and takes no
     /// memory. Linear in their values.
     pub fn check_relations(&self) -> Result<(), PkgFault>
-        ensures { MatchResult result (λ _. relations_fault self.now ≡ None) (λ fault. relations_fault self.now ≡ Some fault) }
+        ensures { MatchResult result (λ _. relations_fault self.now ≡ None)
+            (λ fault. relations_fault self.now ≡ Some fault) }
     {
         self.check_relations_by(None)
     }

@@ -26,7 +26,8 @@ pub use parse::{parse_atoms, parse_clauses, parse_provides};
 pub use pkg::Pkg;
 pub use provided::Provided;
 pub use relation_text::{
-    Acceptor, Form, RelationFault, a_shape_is_refused_at_the_first_byte_that_goes_on_with_no_text,
-    check, every_other_place_has_a_completion, no_text_goes_on_from_the_dead_place,
+    Acceptor, RelationFault, RelationForm,
+    a_shape_is_refused_at_the_first_byte_that_goes_on_with_no_text, check,
+    every_other_place_has_a_completion, no_text_goes_on_from_the_dead_place,
 };
 pub use values::{PkgTexts, PkgValues};

@@ -27,7 +27,9 @@ fn meets(version: &Version<'_>, restriction: Option<(Op, &Version<'_>)>) -> bool
 
 // What is provided without a version meets no restriction.
 fn meets_as_provided(version: Option<&Version<'_>>, restriction: Option<(Op, &Version<'_>)>) -> bool
-    ensures { IsTrue result ↔ MeetsAsProvided (option_copied version.entry) (option_map restriction_by_ref restriction.entry) }
+    ensures { IsTrue result
+        ↔ MeetsAsProvided (option_copied version.entry)
+        (option_map restriction_by_ref restriction.entry) }
 {
     match (version, restriction) {
         (_, None) => true,

@@ -9,7 +9,7 @@ ghost use Rattle.relation_text.specs.declared.cut.Separator.TheVariants.{Comma, 
 use crate::atom::{Atom, Clause};
 use crate::error::RelationError;
 use crate::provided::Provided;
-use relation_text::{Form, Separator, check, cut_part, is_blank};
+use relation_text::{RelationForm, Separator, check, cut_part, is_blank};
 use std::alloc::{AllocError, Global};
 
 // The atoms that the separators part, of which no version is refused.
@@ -86,7 +86,7 @@ pub fn parse_clauses<'a>(
     ensures ok { IfOk result (λ clauses. read_clauses arch.now value.now ≡ Ok clauses.items) }
     ensures err { IfErr result (λ e. IsFault e (read_clauses arch.now value.now)) }
 {
-    check(Form::Clauses, value)?;
+    check(RelationForm::Clauses, value)?;
     Ok(clauses_of(alloc, value, arch)?)
 }
 
@@ -99,7 +99,7 @@ pub fn parse_atoms<'a>(
     ensures ok { IfOk result (λ atoms. read_atoms arch.now value.now ≡ Ok atoms.items) }
     ensures err { IfErr result (λ e. IsFault e (read_atoms arch.now value.now)) }
 {
-    check(Form::Atoms, value)?;
+    check(RelationForm::Atoms, value)?;
     Ok(atoms_between(alloc, Separator::Comma, value, arch)?)
 }
 
@@ -112,6 +112,6 @@ pub fn parse_provides<'a>(
     ensures ok { IfOk result (λ items. read_provides arch.now value.now ≡ Ok items.items) }
     ensures err { IfErr result (λ e. IsFault e (read_provides arch.now value.now)) }
 {
-    check(Form::Provides, value)?;
+    check(RelationForm::Provides, value)?;
     Ok(provided_items_of(alloc, value, arch)?)
 }

@@ -78,7 +78,8 @@ impl<'a> Relations<'a> {
 impl<'a> Pkg<'a> {
     // The package of this name, version and relations.
     pub(crate) fn new(name: &'a [u8], version: Version<'a>, relations: Relations<'a>) -> Pkg<'a>
-        ensures { result ≡ record { name = name.now; version = version.entry; relations = relations.entry } }
+        ensures { result
+            ≡ record { name = name.now; version = version.entry; relations = relations.entry } }
     {
         Pkg {
             name,

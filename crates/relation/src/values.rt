@@ -144,7 +144,8 @@ impl<'a> PkgTexts<'a> {
     /// can fail, and none is taken where the field isn't there. Linear in the value.
     pub fn provides(&self, alloc: Global, arch: &[u8]) -> Result<Vec<Provided<'a>>, AllocError>
         requires { AreTested (values_in self.now) }
-        ensures { IfOk result (λ items. items.items ≡ (spelled arch.now (values_in self.now)).relations.provides) }
+        ensures { IfOk result
+            (λ items. items.items ≡ (spelled arch.now (values_in self.now)).relations.provides) }
     {
         provided_items_of(alloc, self.provides, arch)
     }

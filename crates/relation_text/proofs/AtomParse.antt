@@ -12,30 +12,30 @@ use Rattle.relation_text.specs.Place.{is_end}
 use Rattle.relation_text.specs.Refusal.{separator_of}
 use Rattle.relation_text.specs.Shape.{after_atom, after_name, after_version, before_version, before_operator, next, next_in_operator, place_after, unless_provides}
 use Rattle.relation_text.specs.Spelling.{separates}
-use Rattle.relation_text.specs.declared.shape.Form.{Form}
-use Rattle.relation_text.specs.declared.shape.Form.TheVariants.{Clauses, Atoms, Provides}
-use Rattle.relation_text.specs.declared.shape.Place.{Place}
-use Rattle.relation_text.specs.declared.shape.Place.TheVariants.{Between, Alternative, InName, AfterName, BeforeQualifier, InQualifier, Opened, Less, Greater, AfterOperator, InVersion, AfterVersion, Closed, Dead}
+use Rattle.relation_text.specs.declared.shape.RelationForm.{RelationForm}
+use Rattle.relation_text.specs.declared.shape.RelationForm.TheVariants.{Clauses, Atoms, Provides}
+use Rattle.relation_text.specs.declared.shape.ShapePlace.{ShapePlace}
+use Rattle.relation_text.specs.declared.shape.ShapePlace.TheVariants.{Between, Alternative, InName, AfterName, BeforeQualifier, InQualifier, Opened, Less, Greater, AfterOperator, InVersion, AfterVersion, Closed, Dead}
 use Rattle.relation_text.proofs.ShapeLemmas.{place_after-dead}
 use Rattle.relation_text.proofs.AtomText.{IsOnePart, Takes, TakesAny, IsClosing, IsVersionEnd, IsBehindOperator, IsInside, IsTail, IsBehindName, IsAtomText}
 
 -- the bytes lead from the place to an end
-abbrev pub Ends : Form → Place → List ℕ → Type 0
+abbrev pub Ends : RelationForm → ShapePlace → List ℕ → Type 0
 Ends form place bytes = is_end (place_after form place bytes) ≡ true
 
-pub no_end : (form : Form) (place : Place) (bytes : List ℕ) → place ≡ Dead → Ends form place bytes → ⊥
+pub no_end : (form : RelationForm) (place : ShapePlace) (bytes : List ℕ) → place ≡ Dead → Ends form place bytes → ⊥
 no_end form place bytes dead e =
-    let f : false ≡ true = sym (ap (λ (p : Place). is_end (place_after form p bytes)) dead ∙ ap is_end (place_after-dead form bytes)) ∙ e in
+    let f : false ≡ true = sym (ap (λ (p : ShapePlace). is_end (place_after form p bytes)) dead ∙ ap is_end (place_after-dead form bytes)) ∙ e in
     false≢true f
 
 -- what follows the first byte is in the part too
-pub part_rest : (form : Form) (b : ℕ) (rest : List ℕ) → IsOnePart form (b ∷ rest) → IsOnePart form rest
+pub part_rest : (form : RelationForm) (b : ℕ) (rest : List ℕ) → IsOnePart form (b ∷ rest) → IsOnePart form rest
 part_rest form b rest part = (or_parts (separates (separator_of form) b) (list_any (separates (separator_of form)) rest) part).1
 
-part_first : (form : Form) (b : ℕ) (rest : List ℕ) → IsOnePart form (b ∷ rest) → separates (separator_of form) b ≡ false
+part_first : (form : RelationForm) (b : ℕ) (rest : List ℕ) → IsOnePart form (b ∷ rest) → separates (separator_of form) b ≡ false
 part_first form b rest part = (or_parts (separates (separator_of form) b) (list_any (separates (separator_of form)) rest) part).0
 
-pub no_comma : (form : Form) (b : ℕ) → separates (separator_of form) b ≡ false → is_comma b ≡ false
+pub no_comma : (form : RelationForm) (b : ℕ) → separates (separator_of form) b ≡ false → is_comma b ≡ false
 no_comma Clauses b h = (or_parts (is_comma b) (is_bar b) h).0
 no_comma Atoms b h = h
 no_comma Provides b h = h
@@ -44,7 +44,7 @@ same_either : {X : Type 0} (t : Bool) (x : X) → cond t x x ≡ x
 same_either true x = refl
 same_either false x = refl
 
-after_atom-dead : (form : Form) (place : Place) (b : ℕ) → is_white b ≡ false → separates (separator_of form) b ≡ false → after_atom form place b ≡ Dead
+after_atom-dead : (form : RelationForm) (place : ShapePlace) (b : ℕ) → is_white b ≡ false → separates (separator_of form) b ≡ false → after_atom form place b ≡ Dead
 after_atom-dead Clauses place b other h = let parts = or_parts (is_comma b) (is_bar b) h in
     let comma = parts.0 in let bar = parts.1 in rw (other, comma, bar) refl
 after_atom-dead Atoms place b other h = rw (other, h) (same_either (is_bar b) Dead)
@@ -52,14 +52,14 @@ after_atom-dead Provides place b other h = rw (other, h) (same_either (is_bar b)
 
 -- Behind a restriction
 
-closed_rest : (form : Form) (bytes : List ℕ) → Ends form Closed bytes → IsOnePart form bytes → IsWhite bytes
+closed_rest : (form : RelationForm) (bytes : List ℕ) → Ends form Closed bytes → IsOnePart form bytes → IsWhite bytes
 closed_rest form [] e part = refl
 closed_rest form (b ∷ bytes) e part = elim (cases_Bool (is_white b)) [
   | inl white ↦ and_from _ _ white (closed_rest form bytes (rw white at e) (part_rest form b bytes part))
   | inr other ↦ absurd (no_end form (after_atom form Closed b) bytes (after_atom-dead form Closed b other (part_first form b bytes part)) e)
 ]
 
-after_version_rest : (form : Form) (bytes : List ℕ) → Ends form AfterVersion bytes → IsOnePart form bytes → IsClosing bytes
+after_version_rest : (form : RelationForm) (bytes : List ℕ) → Ends form AfterVersion bytes → IsOnePart form bytes → IsClosing bytes
 after_version_rest form [] e part = absurd (false≢true e)
 after_version_rest form (b ∷ bytes) e part = elim (cases_Bool (is_white b)) [
   | inl white ↦
@@ -83,7 +83,7 @@ after_version_rest form (b ∷ bytes) e part = elim (cases_Bool (is_white b)) [
   ]
 ]
 
-in_version_rest : (form : Form) (bytes : List ℕ) → Ends form InVersion bytes → IsOnePart form bytes → IsVersionEnd bytes
+in_version_rest : (form : RelationForm) (bytes : List ℕ) → Ends form InVersion bytes → IsOnePart form bytes → IsVersionEnd bytes
 in_version_rest form [] e part = absurd (false≢true e)
 in_version_rest form (b ∷ bytes) e part = elim (cases_Bool (is_version_byte b)) [
   | inl version ↦
@@ -110,7 +110,7 @@ record IsVersionThere (text : List ℕ) : Type 0 where
   version : List ℕ
   rest : IsBehindOperator text version
 
-before_version_rest : (form : Form) (bytes : List ℕ) → Ends form AfterOperator bytes → IsOnePart form bytes → IsVersionThere bytes
+before_version_rest : (form : RelationForm) (bytes : List ℕ) → Ends form AfterOperator bytes → IsOnePart form bytes → IsVersionThere bytes
 before_version_rest form [] e part = absurd (false≢true e)
 before_version_rest form (b ∷ bytes) e part = elim (cases_Bool (is_white b)) [
   | inl white ↦
@@ -153,7 +153,7 @@ record IsSecond (second : ℕ) (text : List ℕ) : Type 0 where
   operator_is : (operator ≡ second ∷ []) ⊎ ((operator ≡ 61 ∷ []) ⊎ (operator ≡ []))
   rest_is : IsVersionThere rest
 
-in_operator_rest : (form : Form) (second b : ℕ) (bytes : List ℕ) → Ends form (next_in_operator second b) bytes → IsOnePart form (b ∷ bytes) → IsSecond second (b ∷ bytes)
+in_operator_rest : (form : RelationForm) (second b : ℕ) (bytes : List ℕ) → Ends form (next_in_operator second b) bytes → IsOnePart form (b ∷ bytes) → IsSecond second (b ∷ bytes)
 in_operator_rest form second b bytes e part = elim (cases_Bool (b == second || is_equals b)) [
   | inl more ↦ record {
     operator = b ∷ [];
@@ -174,12 +174,12 @@ in_operator_rest form second b bytes e part = elim (cases_Bool (b == second || i
   }
 ]
 
-record IsInsideOf (form : Form) (text : List ℕ) : Type 0 where
+record IsInsideOf (form : RelationForm) (text : List ℕ) : Type 0 where
   restriction : Restriction
   inside : IsInside text restriction
   takes : Takes form restriction.op
 
-less_op : (form : Form) (text : List ℕ) → Takes form EarlierOrEqual → Takes form StrictlyEarlier → IsSecond 60 text → IsInsideOf form (60 ∷ text)
+less_op : (form : RelationForm) (text : List ℕ) → Takes form EarlierOrEqual → Takes form StrictlyEarlier → IsSecond 60 text → IsInsideOf form (60 ∷ text)
 less_op form text takes_equal takes_strictly second =
     let version = second.rest_is.version in
     let text_is : 60 ∷ text ≡ (60 ∷ second.operator) ++ second.rest = ap (λ (rest : List ℕ). 60 ∷ rest) second.text_is in
@@ -208,7 +208,7 @@ less_op form text takes_equal takes_strictly second =
       }
     ]
 
-greater_op : (form : Form) (text : List ℕ) → Takes form LaterOrEqual → Takes form StrictlyLater → IsSecond 62 text → IsInsideOf form (62 ∷ text)
+greater_op : (form : RelationForm) (text : List ℕ) → Takes form LaterOrEqual → Takes form StrictlyLater → IsSecond 62 text → IsInsideOf form (62 ∷ text)
 greater_op form text takes_equal takes_strictly second =
     let version = second.rest_is.version in
     let text_is : 62 ∷ text ≡ (62 ∷ second.operator) ++ second.rest = ap (λ (rest : List ℕ). 62 ∷ rest) second.text_is in
@@ -237,37 +237,37 @@ greater_op form text takes_equal takes_strictly second =
       }
     ]
 
-equals_op : (form : Form) (text : List ℕ) → Takes form ExactlyEqual → IsVersionThere text → IsInsideOf form (61 ∷ text)
+equals_op : (form : RelationForm) (text : List ℕ) → Takes form ExactlyEqual → IsVersionThere text → IsInsideOf form (61 ∷ text)
 equals_op form text takes there = record {
   restriction = record { op = ExactlyEqual; version = there.version };
   inside = record { operator = 61 ∷ []; rest = text; text_is = refl; op_is = refl; rest_is = there.rest };
   takes = takes;
 }
 
-takes_equals : (form : Form) → Takes form ExactlyEqual
+takes_equals : (form : RelationForm) → Takes form ExactlyEqual
 takes_equals Clauses = tt
 takes_equals Atoms = tt
 takes_equals Provides = refl
 
-second_of_less : (form : Form) (bytes : List ℕ) → Ends form Less bytes → IsOnePart form bytes → IsSecond 60 bytes
+second_of_less : (form : RelationForm) (bytes : List ℕ) → Ends form Less bytes → IsOnePart form bytes → IsSecond 60 bytes
 second_of_less form [] e part = absurd (false≢true e)
 second_of_less form (b ∷ bytes) e part = in_operator_rest form 60 b bytes e part
 
-second_of_greater : (form : Form) (bytes : List ℕ) → Ends form Greater bytes → IsOnePart form bytes → IsSecond 62 bytes
+second_of_greater : (form : RelationForm) (bytes : List ℕ) → Ends form Greater bytes → IsOnePart form bytes → IsSecond 62 bytes
 second_of_greater form [] e part = absurd (false≢true e)
 second_of_greater form (b ∷ bytes) e part = in_operator_rest form 62 b bytes e part
 
-less_rest : (form : Form) (bytes : List ℕ) → Ends form (unless_provides form Less) bytes → IsOnePart form bytes → IsInsideOf form (60 ∷ bytes)
+less_rest : (form : RelationForm) (bytes : List ℕ) → Ends form (unless_provides form Less) bytes → IsOnePart form bytes → IsInsideOf form (60 ∷ bytes)
 less_rest Clauses bytes e part = less_op Clauses bytes tt tt (second_of_less Clauses bytes e part)
 less_rest Atoms bytes e part = less_op Atoms bytes tt tt (second_of_less Atoms bytes e part)
 less_rest Provides bytes e part = absurd (no_end Provides Dead bytes refl e)
 
-greater_rest : (form : Form) (bytes : List ℕ) → Ends form (unless_provides form Greater) bytes → IsOnePart form bytes → IsInsideOf form (62 ∷ bytes)
+greater_rest : (form : RelationForm) (bytes : List ℕ) → Ends form (unless_provides form Greater) bytes → IsOnePart form bytes → IsInsideOf form (62 ∷ bytes)
 greater_rest Clauses bytes e part = greater_op Clauses bytes tt tt (second_of_greater Clauses bytes e part)
 greater_rest Atoms bytes e part = greater_op Atoms bytes tt tt (second_of_greater Atoms bytes e part)
 greater_rest Provides bytes e part = absurd (no_end Provides Dead bytes refl e)
 
-at_byte : (form : Form) (c b : ℕ) (bytes : List ℕ) → (b == c) ≡ true → IsInsideOf form (c ∷ bytes) → IsInsideOf form (b ∷ bytes)
+at_byte : (form : RelationForm) (c b : ℕ) (bytes : List ℕ) → (b == c) ≡ true → IsInsideOf form (c ∷ bytes) → IsInsideOf form (b ∷ bytes)
 at_byte form c b bytes same there =
     let inside = there.inside in
     record {
@@ -282,14 +282,14 @@ at_byte form c b bytes same there =
       takes = there.takes;
     }
 
-record IsOpenedOf (form : Form) (text : List ℕ) : Type 0 where
+record IsOpenedOf (form : RelationForm) (text : List ℕ) : Type 0 where
   before : List ℕ
   inside : List ℕ
   text_is : text ≡ before ++ inside
   before_is : IsWhite before
   inside_is : IsInsideOf form inside
 
-opened_rest : (form : Form) (bytes : List ℕ) → Ends form Opened bytes → IsOnePart form bytes → IsOpenedOf form bytes
+opened_rest : (form : RelationForm) (bytes : List ℕ) → Ends form Opened bytes → IsOnePart form bytes → IsOpenedOf form bytes
 opened_rest form [] e part = absurd (false≢true e)
 opened_rest form (b ∷ bytes) e part = elim (cases_Bool (is_white b)) [
   | inl white ↦
@@ -318,12 +318,12 @@ opened_rest form (b ∷ bytes) e part = elim (cases_Bool (is_white b)) [
 
 -- Behind a name and its qualifier
 
-record IsTailOf (form : Form) (text : List ℕ) : Type 0 where
+record IsTailOf (form : RelationForm) (text : List ℕ) : Type 0 where
   restriction : Option Restriction
   tail : IsTail text restriction
   takes : TakesAny form restriction
 
-opening_tail : (form : Form) (b : ℕ) (bytes : List ℕ) → is_opening b ≡ true → Ends form Opened bytes → IsOnePart form bytes → IsTailOf form (b ∷ bytes)
+opening_tail : (form : RelationForm) (b : ℕ) (bytes : List ℕ) → is_opening b ≡ true → Ends form Opened bytes → IsOnePart form bytes → IsTailOf form (b ∷ bytes)
 opening_tail form b bytes opening e part =
     let there = opened_rest form bytes e part in
     record {
@@ -344,7 +344,7 @@ opening_tail form b bytes opening e part =
       takes = there.inside_is.takes;
     }
 
-after_name_rest : (form : Form) (bytes : List ℕ) → Ends form AfterName bytes → IsOnePart form bytes → IsTailOf form bytes
+after_name_rest : (form : RelationForm) (bytes : List ℕ) → Ends form AfterName bytes → IsOnePart form bytes → IsTailOf form bytes
 after_name_rest form [] e part = record {
   restriction = None;
   tail = record { before = []; opened = []; text_is = refl; before_is = refl; opened_is = refl };
@@ -373,14 +373,14 @@ after_name_rest form (b ∷ bytes) e part = elim (cases_Bool (is_opening b)) [
   ]
 ]
 
-record IsQualifierOf (form : Form) (text : List ℕ) : Type 0 where
+record IsQualifierOf (form : RelationForm) (text : List ℕ) : Type 0 where
   qualifier : List ℕ
   tail : List ℕ
   text_is : text ≡ qualifier ++ tail
   qualifier_is : list_all is_qualifier_byte qualifier ≡ true
   tail_is : IsTailOf form tail
 
-in_qualifier_rest : (form : Form) (bytes : List ℕ) → Ends form InQualifier bytes → IsOnePart form bytes → IsQualifierOf form bytes
+in_qualifier_rest : (form : RelationForm) (bytes : List ℕ) → Ends form InQualifier bytes → IsOnePart form bytes → IsQualifierOf form bytes
 in_qualifier_rest form [] e part = record { qualifier = []; tail = []; text_is = refl; qualifier_is = refl; tail_is = after_name_rest form [] refl refl }
 in_qualifier_rest form (b ∷ bytes) e part = elim (cases_Bool (is_qualifier_byte b)) [
   | inl more ↦
@@ -401,13 +401,13 @@ in_qualifier_rest form (b ∷ bytes) e part = elim (cases_Bool (is_qualifier_byt
   }
 ]
 
-record IsBehindNameOf (form : Form) (text : List ℕ) : Type 0 where
+record IsBehindNameOf (form : RelationForm) (text : List ℕ) : Type 0 where
   qualifier : Option (List ℕ)
   restriction : Option Restriction
   rest : IsBehindName text qualifier restriction
   takes : TakesAny form restriction
 
-qualifier_rest : (form : Form) (bytes : List ℕ) → Ends form BeforeQualifier bytes → IsOnePart form bytes → IsBehindNameOf form (58 ∷ bytes)
+qualifier_rest : (form : RelationForm) (bytes : List ℕ) → Ends form BeforeQualifier bytes → IsOnePart form bytes → IsBehindNameOf form (58 ∷ bytes)
 qualifier_rest form [] e part = absurd (false≢true e)
 qualifier_rest form (b ∷ bytes) e part = elim (cases_Bool (is_ascii_alphanumeric b)) [
   | inl first ↦
@@ -426,7 +426,7 @@ qualifier_rest form (b ∷ bytes) e part = elim (cases_Bool (is_ascii_alphanumer
   | inr other ↦ absurd (no_end form (next form BeforeQualifier b) bytes (rw other refl) e)
 ]
 
-at_colon : (form : Form) (b : ℕ) (bytes : List ℕ) → is_colon b ≡ true → IsBehindNameOf form (58 ∷ bytes) → IsBehindNameOf form (b ∷ bytes)
+at_colon : (form : RelationForm) (b : ℕ) (bytes : List ℕ) → is_colon b ≡ true → IsBehindNameOf form (58 ∷ bytes) → IsBehindNameOf form (b ∷ bytes)
 at_colon form b bytes colon there =
     let rest = there.rest in
     record {
@@ -441,7 +441,7 @@ at_colon form b bytes colon there =
       takes = there.takes;
     }
 
-without_qualifier : (form : Form) (text : List ℕ) → IsTailOf form text → IsBehindNameOf form text
+without_qualifier : (form : RelationForm) (text : List ℕ) → IsTailOf form text → IsBehindNameOf form text
 without_qualifier form text there = record {
   qualifier = None;
   restriction = there.restriction;
@@ -449,14 +449,14 @@ without_qualifier form text there = record {
   takes = there.takes;
 }
 
-record IsNameOf (form : Form) (text : List ℕ) : Type 0 where
+record IsNameOf (form : RelationForm) (text : List ℕ) : Type 0 where
   name : List ℕ
   rest : List ℕ
   text_is : text ≡ name ++ rest
   name_is : list_all is_name_byte name ≡ true
   rest_is : IsBehindNameOf form rest
 
-in_name_rest : (form : Form) (bytes : List ℕ) → Ends form InName bytes → IsOnePart form bytes → IsNameOf form bytes
+in_name_rest : (form : RelationForm) (bytes : List ℕ) → Ends form InName bytes → IsOnePart form bytes → IsNameOf form bytes
 in_name_rest form [] e part = record {
   name = [];
   rest = [];
@@ -487,14 +487,14 @@ in_name_rest form (b ∷ bytes) e part = elim (cases_Bool (is_name_byte b)) [
 ]
 
 -- a text that is an atom of the form
-pub record IsAtomOf (form : Form) (text : List ℕ) : Type 0 where
+pub record IsAtomOf (form : RelationForm) (text : List ℕ) : Type 0 where
   pub name : List ℕ
   pub qualifier : Option (List ℕ)
   pub restriction : Option Restriction
   pub atom : IsAtomText text name qualifier restriction
   pub takes : TakesAny form restriction
 
-named : (form : Form) (b : ℕ) (bytes : List ℕ) → is_ascii_alphanumeric b ≡ true → IsNameOf form bytes → IsAtomOf form (b ∷ bytes)
+named : (form : RelationForm) (b : ℕ) (bytes : List ℕ) → is_ascii_alphanumeric b ≡ true → IsNameOf form bytes → IsAtomOf form (b ∷ bytes)
 named form b bytes first there = record {
   name = b ∷ there.name;
   qualifier = there.rest_is.qualifier;
@@ -510,7 +510,7 @@ named form b bytes first there = record {
   takes = there.rest_is.takes;
 }
 
-behind_white : (form : Form) (b : ℕ) (bytes : List ℕ) → is_white b ≡ true → IsAtomOf form bytes → IsAtomOf form (b ∷ bytes)
+behind_white : (form : RelationForm) (b : ℕ) (bytes : List ℕ) → is_white b ≡ true → IsAtomOf form bytes → IsAtomOf form (b ∷ bytes)
 behind_white form b bytes white there =
     let atom = there.atom in
     record {
@@ -529,7 +529,7 @@ behind_white form b bytes white there =
     }
 
 -- behind a bar
-pub parse_alternative : (form : Form) (bytes : List ℕ) → Ends form Alternative bytes → IsOnePart form bytes → IsAtomOf form bytes
+pub parse_alternative : (form : RelationForm) (bytes : List ℕ) → Ends form Alternative bytes → IsOnePart form bytes → IsAtomOf form bytes
 parse_alternative form [] e part = absurd (false≢true e)
 parse_alternative form (b ∷ bytes) e part = elim (cases_Bool (is_white b)) [
   | inl white ↦ behind_white form b bytes white (parse_alternative form bytes (rw white at e) (part_rest form b bytes part))
@@ -540,7 +540,7 @@ parse_alternative form (b ∷ bytes) e part = elim (cases_Bool (is_white b)) [
 ]
 
 -- behind a comma, or at the value's beginning
-pub parse_part : (form : Form) (bytes : List ℕ) → Ends form Between bytes → IsOnePart form bytes → IsWhite bytes ⊎ IsAtomOf form bytes
+pub parse_part : (form : RelationForm) (bytes : List ℕ) → Ends form Between bytes → IsOnePart form bytes → IsWhite bytes ⊎ IsAtomOf form bytes
 parse_part form [] e part = inl refl
 parse_part form (b ∷ bytes) e part =
     let comma = no_comma form b (part_first form b bytes part) in

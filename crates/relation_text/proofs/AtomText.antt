@@ -9,21 +9,21 @@ use Rattle.relation_text.specs.Bytes.{is_version_byte}
 use Rattle.relation_text.specs.Grammar.{IsWhite, IsQualifier, SpellsOp, behind_colon}
 use Rattle.relation_text.specs.Refusal.{separator_of}
 use Rattle.relation_text.specs.Spelling.{separates}
-use Rattle.relation_text.specs.declared.shape.Form.{Form}
-use Rattle.relation_text.specs.declared.shape.Form.TheVariants.{Clauses, Atoms, Provides}
+use Rattle.relation_text.specs.declared.shape.RelationForm.{RelationForm}
+use Rattle.relation_text.specs.declared.shape.RelationForm.TheVariants.{Clauses, Atoms, Provides}
 
 -- no byte parts the text from others of the form
-abbrev pub IsOnePart : Form → List ℕ → Type 0
+abbrev pub IsOnePart : RelationForm → List ℕ → Type 0
 IsOnePart form text = list_any (separates (separator_of form)) text ≡ false
 
 -- the form takes the operator
-abbrev pub Takes : Form → Op → Type 0
+abbrev pub Takes : RelationForm → Op → Type 0
 Takes Clauses op = Unit {0}
 Takes Atoms op = Unit {0}
 Takes Provides op = op ≡ ExactlyEqual
 
 -- the form takes the restriction, if there is one
-abbrev pub TakesAny : Form → Option Restriction → Type 0
+abbrev pub TakesAny : RelationForm → Option Restriction → Type 0
 TakesAny form None = Unit {0}
 TakesAny form (Some restriction) = Takes form restriction.op
 

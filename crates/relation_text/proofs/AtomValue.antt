@@ -14,7 +14,7 @@ use Rattle.relation_text.specs.Bytes.{is_white, is_colon, is_operator_byte, is_q
 use Rattle.relation_text.specs.Grammar.{IsQualifier, SpellsOp, atom_of_provided, behind_colon, exactly}
 use Rattle.relation_text.specs.Refusal.{bad_version_in, bad_version_of}
 use Rattle.relation_text.specs.Spelling.{after_name, after_qualifier, after_run, atom_of, inside_of, is_foreign, name_of, op_of, opened_at, provided_of, qualifier_at, restriction_in, version_in}
-use Rattle.relation_text.specs.declared.shape.Form.TheVariants.{Provides}
+use Rattle.relation_text.specs.declared.shape.RelationForm.TheVariants.{Provides}
 use Rattle.relation_text.proofs.Runs.{Excludes, Stops, drop_run, excludes_byte, stops_past, take_run}
 use Rattle.relation_text.proofs.AtomText.{IsAnyOpened, IsAtomText, IsBehindName, IsBehindOperator, IsClosing, IsInside, IsTail, IsVersionText, TakesAny}
 
@@ -169,23 +169,23 @@ behind_no_qualifier [] stops = refl
 behind_no_qualifier (b ∷ tail) stops = rw stops refl
 
 record CutsQualifier (rest : List ℕ) (qualifier : Option (List ℕ)) (tail : List ℕ) : Type 0 where
-  found : qualifier_at rest ≡ qualifier
+  qualifier_is : qualifier_at rest ≡ qualifier
   behind : after_qualifier rest ≡ tail
 
 cut_qualifier : (qualifier : Option (List ℕ)) (tail : List ℕ) → IfSome qualifier IsQualifier → Stops is_colon tail → Stops is_qualifier_byte tail
     → CutsQualifier (behind_colon qualifier ++ tail) qualifier tail
-cut_qualifier None tail is stops ends = record { found = no_qualifier tail stops; behind = behind_no_qualifier tail stops }
+cut_qualifier None tail is stops ends = record { qualifier_is = no_qualifier tail stops; behind = behind_no_qualifier tail stops }
 cut_qualifier (Some qualifier) tail is stops ends =
     let bytes = qualifier_bytes qualifier is in
     record {
-      found = ap (λ (qualifier : List ℕ). Some qualifier) (take_run is_qualifier_byte qualifier tail bytes ends);
+      qualifier_is = ap (λ (qualifier : List ℕ). Some qualifier) (take_run is_qualifier_byte qualifier tail bytes ends);
       behind = drop_run is_qualifier_byte qualifier tail bytes ends;
     }
 
 pub record CutsAtom (text name : List ℕ) (qualifier : Option (List ℕ)) (restriction : Option Restriction) : Type 0 where
   pub name_is : name_of text ≡ name
   pub qualifier_is : qualifier_at (after_name text) ≡ qualifier
-  pub found : IsFound (inside_of text) restriction
+  pub restriction_is : IsFound (inside_of text) restriction
 
 pub cut_atom : (text name : List ℕ) (qualifier : Option (List ℕ)) (restriction : Option Restriction) → IsAtomText text name qualifier restriction
     → CutsAtom text name qualifier restriction
@@ -204,21 +204,21 @@ cut_atom text name qualifier restriction is =
     let to_rest : after_name text ≡ behind_colon qualifier ++ rest.tail = behind_name ∙ rest.text_is in
     record {
       name_is = ap (take_while is_name_byte) behind_white ∙ take_run is_name_byte name is.rest bytes stops;
-      qualifier_is = ap qualifier_at to_rest ∙ cut.found;
-      found = subst (λ (tail : List ℕ). IsFound (opened_at (after_run is_white tail)) restriction) (sym (ap after_qualifier to_rest ∙ cut.behind))
+      qualifier_is = ap qualifier_at to_rest ∙ cut.qualifier_is;
+      restriction_is = subst (λ (tail : List ℕ). IsFound (opened_at (after_run is_white tail)) restriction) (sym (ap after_qualifier to_rest ∙ cut.behind))
           (tail_found rest.tail restriction tail);
     }
 
 -- The values
 
-found_restriction : (found : Option (List ℕ)) (restriction : Option Restriction) → IsFound found restriction → option_map restriction_in found ≡ restriction
+found_restriction : (part : Option (List ℕ)) (restriction : Option Restriction) → IsFound part restriction → option_map restriction_in part ≡ restriction
 found_restriction None None is = refl
 found_restriction None (Some restriction) is = absurd is
 found_restriction (Some inside) None is = absurd is
 found_restriction (Some inside) (Some restriction) is = ap (λ (r : Restriction). Some r) is
 
-found_exactly : (found : Option (List ℕ)) (restriction : Option Restriction) → IsFound found restriction → TakesAny Provides restriction
-    → option_map exactly (option_map version_in found) ≡ restriction
+found_exactly : (part : Option (List ℕ)) (restriction : Option Restriction) → IsFound part restriction → TakesAny Provides restriction
+    → option_map exactly (option_map version_in part) ≡ restriction
 found_exactly None None is takes = refl
 found_exactly None (Some restriction) is takes = absurd is
 found_exactly (Some inside) None is takes = absurd is
@@ -233,14 +233,14 @@ pub atom_value : (arch text name : List ℕ) (qualifier : Option (List ℕ)) (re
     → atom_of arch text ≡ atom_from arch name qualifier restriction
 atom_value arch text name qualifier restriction is =
     let cut = cut_atom text name qualifier restriction is in
-    let restriction_is = found_restriction (inside_of text) restriction cut.found in
+    let restriction_is = found_restriction (inside_of text) restriction cut.restriction_is in
     λ i. record { name = cut.name_is i; restriction = restriction_is i; foreign = is_foreign arch (cut.qualifier_is i) }
 
 pub provided_value : (arch text name : List ℕ) (qualifier : Option (List ℕ)) (restriction : Option Restriction) → IsAtomText text name qualifier restriction
     → TakesAny Provides restriction → atom_of_provided (provided_of arch text) ≡ atom_from arch name qualifier restriction
 provided_value arch text name qualifier restriction is takes =
     let cut = cut_atom text name qualifier restriction is in
-    let restriction_is = found_exactly (inside_of text) restriction cut.found takes in
+    let restriction_is = found_exactly (inside_of text) restriction cut.restriction_is takes in
     λ i. record { name = cut.name_is i; restriction = restriction_is i; foreign = is_foreign arch (cut.qualifier_is i) }
 
 -- The version
@@ -254,16 +254,16 @@ no_fault_in : {A : Type 0} (fault : Option A) (offset : ℕ) → cond (is_some f
 no_fault_in None offset e = refl
 no_fault_in (Some fault) offset e = cc e
 
-found_faultless : (text : List ℕ) (found : Option (List ℕ)) (restriction : Option Restriction) → IsFound found restriction
-    → option_and_then (bad_version_in text) found ≡ None → IsFaultless restriction
+found_faultless : (text : List ℕ) (part : Option (List ℕ)) (restriction : Option Restriction) → IsFound part restriction
+    → option_and_then (bad_version_in text) part ≡ None → IsFaultless restriction
 found_faultless text None None is e = tt
 found_faultless text None (Some restriction) is e = absurd is
 found_faultless text (Some inside) None is e = absurd is
 found_faultless text (Some inside) (Some restriction) is e =
     ap (λ (r : Restriction). first_fault r.version) (sym is) ∙ no_fault_in (first_fault (version_in inside)) _ e
 
-faultless_found : (text : List ℕ) (found : Option (List ℕ)) (restriction : Option Restriction) → IsFound found restriction → IsFaultless restriction
-    → option_and_then (bad_version_in text) found ≡ None
+faultless_found : (text : List ℕ) (part : Option (List ℕ)) (restriction : Option Restriction) → IsFound part restriction → IsFaultless restriction
+    → option_and_then (bad_version_in text) part ≡ None
 faultless_found text None None is faultless = refl
 faultless_found text None (Some restriction) is faultless = absurd is
 faultless_found text (Some inside) None is faultless = absurd is
@@ -273,8 +273,8 @@ faultless_found text (Some inside) (Some restriction) is faultless =
 
 pub faultless_from : (text : List ℕ) (restriction : Option Restriction) → IsFound (inside_of text) restriction → bad_version_of text ≡ None → IsFaultless restriction
 unfolding bad_version_of
-faultless_from text restriction found e = found_faultless text (inside_of text) restriction found e
+faultless_from text restriction restriction_is e = found_faultless text (inside_of text) restriction restriction_is e
 
 pub no_bad_version : (text : List ℕ) (restriction : Option Restriction) → IsFound (inside_of text) restriction → IsFaultless restriction → bad_version_of text ≡ None
 unfolding bad_version_of
-no_bad_version text restriction found faultless = faultless_found text (inside_of text) restriction found faultless
+no_bad_version text restriction restriction_is faultless = faultless_found text (inside_of text) restriction restriction_is faultless

@@ -7,11 +7,11 @@ use Rattle.std.specs.Prelude.{Ok}
 use Rattle.relation_text.specs.Refusal.{bad_version_of, excess_from, fault_of, least_refusal, most_atoms, separator_of, shape_refusal_from, sooner, unless_refused, version_refusal_from}
 use Rattle.relation_text.specs.Spelling.{is_blank, items_of, parts_of}
 use Rattle.relation_text.specs.declared.error.RelationFault.{RelationFault}
-use Rattle.relation_text.specs.declared.refusal.Refusal.{Refusal}
-use Rattle.relation_text.specs.declared.shape.Form.{Form}
-use Rattle.relation_text.specs.declared.shape.Place.TheVariants.{Between}
+use Rattle.relation_text.specs.declared.refusal.RelationRefusal.{RelationRefusal}
+use Rattle.relation_text.specs.declared.shape.RelationForm.{RelationForm}
+use Rattle.relation_text.specs.declared.shape.ShapePlace.TheVariants.{Between}
 
-sooner_first : (refusal other : Option Refusal) → sooner refusal other ≡ None → refusal ≡ None
+sooner_first : (refusal other : Option RelationRefusal) → sooner refusal other ≡ None → refusal ≡ None
 sooner_first None other e = refl
 sooner_first (Some refusal) None e = cc e
 sooner_first (Some refusal) (Some other) e = elim (cases_Bool (nat_lt other.offset refusal.offset)) [
@@ -19,21 +19,21 @@ sooner_first (Some refusal) (Some other) e = elim (cases_Bool (nat_lt other.offs
   | inr not_less ↦ cc (rw not_less at e)
 ]
 
-sooner_second : (refusal other : Option Refusal) → sooner refusal other ≡ None → other ≡ None
+sooner_second : (refusal other : Option RelationRefusal) → sooner refusal other ≡ None → other ≡ None
 sooner_second None other e = e
 sooner_second (Some refusal) other e = cc (sooner_first (Some refusal) other e)
 
-no_refusal : (refusal : Option Refusal) → option_map (λ (refusal : Refusal). refusal.fault) refusal ≡ None → refusal ≡ None
+no_refusal : (refusal : Option RelationRefusal) → option_map (λ (refusal : RelationRefusal). refusal.fault) refusal ≡ None → refusal ≡ None
 no_refusal None e = refl
 no_refusal (Some refusal) e = cc e
 
 -- nothing of the value is refused
-pub record IsFine (form : Form) (value : List ℕ) : Type 0 where
+pub record IsFine (form : RelationForm) (value : List ℕ) : Type 0 where
   pub shape : shape_refusal_from form Between 0 value ≡ None
   pub versions : version_refusal_from 0 (parts_of (separator_of form) value) ≡ None
   pub few : excess_from most_atoms 0 (parts_of (separator_of form) value) ≡ None
 
-pub fine_from : (form : Form) (value : List ℕ) → fault_of form value ≡ None → IsFine form value
+pub fine_from : (form : RelationForm) (value : List ℕ) → fault_of form value ≡ None → IsFine form value
 unfolding fault_of
 fine_from form value e =
     let least = no_refusal (least_refusal form value) e in
@@ -44,7 +44,7 @@ fine_from form value e =
       few = sooner_second (version_refusal_from 0 (parts_of (separator_of form) value)) _ later;
     }
 
-pub no_fault : (form : Form) (value : List ℕ) → IsFine form value → fault_of form value ≡ None
+pub no_fault : (form : RelationForm) (value : List ℕ) → IsFine form value → fault_of form value ≡ None
 unfolding fault_of
 no_fault form value fine = let shape = fine.shape in let versions = fine.versions in let few = fine.few in rw (shape, versions, few) refl
 
@@ -58,7 +58,7 @@ no_other : {A : Type 0} (first other : Option A) → option_or first other ≡ N
 no_other None other e = e
 no_other (Some x) other e = cc e
 
-no_mapped : {A B : Type 0} (f : A → B) (found : Option A) → option_map f found ≡ None → found ≡ None
+no_mapped : {A B : Type 0} (f : A → B) (value : Option A) → option_map f value ≡ None → value ≡ None
 no_mapped f None e = refl
 no_mapped f (Some x) e = cc e
 

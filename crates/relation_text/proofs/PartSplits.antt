@@ -180,38 +180,38 @@ pub record IsItem {A : Type 0} (of : List ℕ → A) (text : List ℕ) (item : A
 
 -- the items of parts are what they spell
 pub items_back : {A : Type 0} (Spells : List ℕ → A → Type 0) (of : List ℕ → A) → ((text : List ℕ) (item : A) → Spells text item → IsItem of text item)
-    → (parts : List (List ℕ)) (found : List (Option A)) → AllZip (SpellsPart Spells) parts found → map of (items_of parts) ≡ filter_map (λ item. item) found
+    → (parts : List (List ℕ)) (slots : List (Option A)) → AllZip (SpellsPart Spells) parts slots → map of (items_of parts) ≡ filter_map (λ item. item) slots
 items_back Spells of back [] [] all = refl
-items_back Spells of back [] (slot ∷ found) all = absurd all
+items_back Spells of back [] (slot ∷ slots) all = absurd all
 items_back Spells of back (text ∷ parts) [] all = absurd all
-items_back Spells of back (text ∷ parts) (None ∷ found) all = let white : is_blank text ≡ true = all.0 in rw white (items_back Spells of back parts found all.1)
-items_back Spells of back (text ∷ parts) (Some item ∷ found) all =
+items_back Spells of back (text ∷ parts) (None ∷ slots) all = let white : is_blank text ≡ true = all.0 in rw white (items_back Spells of back parts slots all.1)
+items_back Spells of back (text ∷ parts) (Some item ∷ slots) all =
     let is = back text item all.0 in
     let some = is.some in
-    rw some (λ i. is.value i ∷ items_back Spells of back parts found all.1 i)
+    rw some (λ i. is.value i ∷ items_back Spells of back parts slots all.1 i)
 
 -- a fact of each part, whether it spells an item or none
 pub parts_fact : {A : Type 0} (Spells : List ℕ → A → Type 0) (P : List ℕ → Type 0) → ((text : List ℕ) → IsWhite text → P text) → ((text : List ℕ) (item : A) → Spells text item → P text)
-    → (parts : List (List ℕ)) (found : List (Option A)) → AllZip (SpellsPart Spells) parts found → AllByRecursion P parts
-parts_fact Spells P of_white of_item [] found all = tt
+    → (parts : List (List ℕ)) (slots : List (Option A)) → AllZip (SpellsPart Spells) parts slots → AllByRecursion P parts
+parts_fact Spells P of_white of_item [] slots all = tt
 parts_fact Spells P of_white of_item (text ∷ parts) [] all = absurd all
-parts_fact Spells P of_white of_item (text ∷ parts) (None ∷ found) all = (of_white text all.0, parts_fact Spells P of_white of_item parts found all.1)
-parts_fact Spells P of_white of_item (text ∷ parts) (Some item ∷ found) all = (of_item text item all.0, parts_fact Spells P of_white of_item parts found all.1)
+parts_fact Spells P of_white of_item (text ∷ parts) (None ∷ slots) all = (of_white text all.0, parts_fact Spells P of_white of_item parts slots all.1)
+parts_fact Spells P of_white of_item (text ∷ parts) (Some item ∷ slots) all = (of_item text item all.0, parts_fact Spells P of_white of_item parts slots all.1)
 
 -- a list that is spelled, with its first part
 pub record SpellsSome {A : Type 0} (Spells : List ℕ → A → Type 0) (value : List ℕ) (items : List A) : Type 0 where
   pub first : List ℕ
   pub later : List (List ℕ)
-  pub found : List (Option A)
+  pub slots : List (Option A)
   pub value_is : value ≡ join_with_byte 44 (first ∷ later)
-  pub each : AllZip (SpellsPart Spells) (first ∷ later) found
-  pub items_are : items ≡ filter_map (λ item. item) found
+  pub each : AllZip (SpellsPart Spells) (first ∷ later) slots
+  pub items_are : items ≡ filter_map (λ item. item) slots
 
-some_with : {A : Type 0} (Spells : List ℕ → A → Type 0) (value : List ℕ) (items : List A) (parts : List (List ℕ)) (found : List (Option A))
-    → value ≡ join_with_byte 44 parts → AllZip (SpellsPart Spells) parts found → items ≡ filter_map (λ item. item) found → SpellsSome Spells value items
-some_with Spells value items [] [] e each are = record { first = []; later = []; found = None ∷ []; value_is = e; each = (refl, tt); items_are = are }
-some_with Spells value items [] (slot ∷ found) e each are = absurd each
-some_with Spells value items (text ∷ parts) found e each are = record { first = text; later = parts; found = found; value_is = e; each = each; items_are = are }
+some_with : {A : Type 0} (Spells : List ℕ → A → Type 0) (value : List ℕ) (items : List A) (parts : List (List ℕ)) (slots : List (Option A))
+    → value ≡ join_with_byte 44 parts → AllZip (SpellsPart Spells) parts slots → items ≡ filter_map (λ item. item) slots → SpellsSome Spells value items
+some_with Spells value items [] [] e each are = record { first = []; later = []; slots = None ∷ []; value_is = e; each = (refl, tt); items_are = are }
+some_with Spells value items [] (slot ∷ slots) e each are = absurd each
+some_with Spells value items (text ∷ parts) slots e each are = record { first = text; later = parts; slots = slots; value_is = e; each = each; items_are = are }
 
 pub some_parts : {A : Type 0} (Spells : List ℕ → A → Type 0) (value : List ℕ) (items : List A) → SpellsList Spells value items → SpellsSome Spells value items
-some_parts Spells value items is = some_with Spells value items is.parts is.found is.value_is is.each is.items_are
+some_parts Spells value items is = some_with Spells value items is.parts is.slots is.value_is is.each is.items_are

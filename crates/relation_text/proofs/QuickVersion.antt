@@ -13,10 +13,10 @@ use Rattle.rules.specs.VersionFault.{greatest_epoch, is_revision_byte, is_upstre
 use Rattle.debversion.specs.Spelling.{IsEpoch, IsRevision, IsSpelled, IsUpstream, before_hyphen}
 use Rattle.relation_text.specs.Bytes.{is_closing, is_version_byte, is_white}
 use Rattle.relation_text.specs.Quick.{QuickEnds, quick_next, upstream_begins, version_begins, version_goes_on}
-use Rattle.relation_text.specs.declared.quick.State.{State}
-use Rattle.relation_text.specs.declared.quick.State.TheVariants.{At, OneDigit, BehindEpoch, BehindHyphen}
-use Rattle.relation_text.specs.declared.shape.Form.{Form}
-use Rattle.relation_text.specs.declared.shape.Place.TheVariants.{InVersion, Dead}
+use Rattle.relation_text.specs.declared.quick.QuickState.{QuickState}
+use Rattle.relation_text.specs.declared.quick.QuickState.TheVariants.{At, OneDigit, BehindEpoch, BehindHyphen}
+use Rattle.relation_text.specs.declared.shape.RelationForm.{RelationForm}
+use Rattle.relation_text.specs.declared.shape.ShapePlace.TheVariants.{InVersion, Dead}
 use Rattle.relation_text.proofs.QuickShape.{dead_end}
 use Rattle.relation_text.proofs.Runs.{Stops}
 
@@ -135,17 +135,17 @@ hyphen_more text more (Some revision) written text_is all is free = record {
 }
 
 -- a byte of a version goes on with it, from each state in it but the one behind an epoch
-goes_on : (form : Form) (b : ℕ) → is_version_byte b ≡ true → quick_next form (At InVersion) b ≡ version_goes_on b
+goes_on : (form : RelationForm) (b : ℕ) → is_version_byte b ≡ true → quick_next form (At InVersion) b ≡ version_goes_on b
 goes_on form b version = rw version refl
 
-goes_on_behind_hyphen : (form : Form) (b : ℕ) → is_version_byte b ≡ true → quick_next form BehindHyphen b ≡ version_goes_on b
+goes_on_behind_hyphen : (form : RelationForm) (b : ℕ) → is_version_byte b ≡ true → quick_next form BehindHyphen b ≡ version_goes_on b
 goes_on_behind_hyphen form b version = rw version refl
 
-from_epoch : (form : Form) (b : ℕ) → is_version_byte b ≡ true → quick_next form BehindEpoch b ≡ upstream_begins b
+from_epoch : (form : RelationForm) (b : ℕ) → is_version_byte b ≡ true → quick_next form BehindEpoch b ≡ upstream_begins b
 from_epoch form b version = rw version refl
 
 -- a version ends neither with a hyphen nor with its epoch
-not_behind_hyphen : (form : Form) (closing : List ℕ) → Stops is_version_byte closing → QuickEnds form BehindHyphen closing → ⊥
+not_behind_hyphen : (form : RelationForm) (closing : List ℕ) → Stops is_version_byte closing → QuickEnds form BehindHyphen closing → ⊥
 not_behind_hyphen form [] stops e = false≢true e
 not_behind_hyphen form (b ∷ closing) stops e = dead_end form (quick_next form BehindHyphen b) closing (elim (cases_Bool (is_white b)) [
   | inl white ↦ rw (stops, white) refl
@@ -155,7 +155,7 @@ not_behind_hyphen form (b ∷ closing) stops e = dead_end form (quick_next form 
   ]
 ]) e
 
-not_behind_epoch : (form : Form) (closing : List ℕ) → Stops is_version_byte closing → QuickEnds form BehindEpoch closing → ⊥
+not_behind_epoch : (form : RelationForm) (closing : List ℕ) → Stops is_version_byte closing → QuickEnds form BehindEpoch closing → ⊥
 not_behind_epoch form [] stops e = false≢true e
 not_behind_epoch form (b ∷ closing) stops e = dead_end form (quick_next form BehindEpoch b) closing (elim (cases_Bool (is_white b)) [
   | inl white ↦ rw (stops, white) refl
@@ -165,15 +165,15 @@ not_behind_epoch form (b ∷ closing) stops e = dead_end form (quick_next form B
   ]
 ]) e
 
-over : (form : Form) (state other : State) (bytes : List ℕ) → state ≡ other → QuickEnds form state bytes → QuickEnds form other bytes
-over form state other bytes same e = subst (λ (s : State). QuickEnds form s bytes) same e
+over : (form : RelationForm) (state other : QuickState) (bytes : List ℕ) → state ≡ other → QuickEnds form state bytes → QuickEnds form other bytes
+over form state other bytes same e = subst (λ (s : QuickState). QuickEnds form s bytes) same e
 
 -- what follows a hyphen: some byte, as elsewhere in a version
-record FollowsHyphen (form : Form) (text closing : List ℕ) : Type 0 where
+record FollowsHyphen (form : RelationForm) (text closing : List ℕ) : Type 0 where
   written : 0 < length text
   ends : QuickEnds form (At InVersion) (text ++ closing)
 
-follows_hyphen : (form : Form) (text closing : List ℕ) → list_all is_version_byte text ≡ true → Stops is_version_byte closing
+follows_hyphen : (form : RelationForm) (text closing : List ℕ) → list_all is_version_byte text ≡ true → Stops is_version_byte closing
     → QuickEnds form BehindHyphen (text ++ closing) → FollowsHyphen form text closing
 follows_hyphen form [] closing all stops e = absurd (not_behind_hyphen form closing stops e)
 follows_hyphen form (b ∷ text) closing all stops e =
@@ -187,7 +187,7 @@ follows_hyphen form (b ∷ text) closing all stops e =
 rest_behind_hyphen : (text : List ℕ) → 0 < length text → IsVersionRest text → IsVersionRest (45 ∷ text)
 rest_behind_hyphen text written rest = hyphen_more text rest.more rest.revision written rest.text_is rest.bytes rest.revision_is rest.no_hyphen
 
-version_rest : (form : Form) (text closing : List ℕ) → list_all is_version_byte text ≡ true → Stops is_version_byte closing
+version_rest : (form : RelationForm) (text closing : List ℕ) → list_all is_version_byte text ≡ true → Stops is_version_byte closing
     → QuickEnds form (At InVersion) (text ++ closing) → IsVersionRest text
 version_rest form [] closing all stops e = nothing_more
 version_rest form (b ∷ text) closing all stops e =
@@ -262,13 +262,13 @@ with_epoch e b text digit plain no_hyphen rest = record {
 }
 
 -- an upstream version begins with this byte
-record Begins (form : Form) (b : ℕ) (text closing : List ℕ) : Type 0 where
+record Begins (form : RelationForm) (b : ℕ) (text closing : List ℕ) : Type 0 where
   plain : is_revision_byte b ≡ true
   no_hyphen : is_hyphen b ≡ false
   no_colon : is_colon b ≡ false
   rest : IsVersionRest text
 
-upstream_first : (form : Form) (b : ℕ) (text closing : List ℕ) → is_version_byte b ≡ true → list_all is_version_byte text ≡ true → Stops is_version_byte closing
+upstream_first : (form : RelationForm) (b : ℕ) (text closing : List ℕ) → is_version_byte b ≡ true → list_all is_version_byte text ≡ true → Stops is_version_byte closing
     → QuickEnds form (upstream_begins b) (text ++ closing) → Begins form b text closing
 upstream_first form b text closing version all stops e = elim (cases_Bool (is_colon b || is_hyphen b)) [
   | inl other ↦ absurd (dead_end form (At Dead) (text ++ closing) refl (rw other at e))
@@ -282,7 +282,7 @@ upstream_first form b text closing version all stops e = elim (cases_Bool (is_co
       }
 ]
 
-behind_epoch_spelled : (form : Form) (d : ℕ) (text closing : List ℕ) → is_ascii_digit d ≡ true → list_all is_version_byte text ≡ true → Stops is_version_byte closing
+behind_epoch_spelled : (form : RelationForm) (d : ℕ) (text closing : List ℕ) → is_ascii_digit d ≡ true → list_all is_version_byte text ≡ true → Stops is_version_byte closing
     → QuickEnds form BehindEpoch (text ++ closing) → IsSpelled (d ∷ 58 ∷ text)
 behind_epoch_spelled form d [] closing digit all stops e = absurd (not_behind_epoch form closing stops e)
 behind_epoch_spelled form d (b ∷ text) closing digit all stops e =
@@ -304,7 +304,7 @@ digit_first : (d : ℕ) (text : List ℕ) → is_ascii_digit d ≡ true → IsVe
 digit_first d text digit rest = without_epoch d text (digit_plain d digit) (digit_other d 45 refl digit) (digit_other d 58 refl digit) rest
 
 -- behind the first digit of a version
-digit_spelled : (form : Form) (d : ℕ) (text closing : List ℕ) → is_ascii_digit d ≡ true → list_all is_version_byte text ≡ true → Stops is_version_byte closing
+digit_spelled : (form : RelationForm) (d : ℕ) (text closing : List ℕ) → is_ascii_digit d ≡ true → list_all is_version_byte text ≡ true → Stops is_version_byte closing
     → QuickEnds form OneDigit (text ++ closing) → IsSpelled (d ∷ text)
 digit_spelled form d [] closing digit all stops e = digit_first d [] digit nothing_more
 digit_spelled form d (b ∷ text) closing digit all stops e =
@@ -321,7 +321,7 @@ digit_spelled form d (b ∷ text) closing digit all stops e =
     ]
 
 -- a version that begins with this byte is spelled as one
-pub begun_spelled : (form : Form) (b : ℕ) (text closing : List ℕ) → is_version_byte b ≡ true → list_all is_version_byte text ≡ true → Stops is_version_byte closing
+pub begun_spelled : (form : RelationForm) (b : ℕ) (text closing : List ℕ) → is_version_byte b ≡ true → list_all is_version_byte text ≡ true → Stops is_version_byte closing
     → QuickEnds form (version_begins b) (text ++ closing) → IsSpelled (b ∷ text)
 begun_spelled form b text closing version all stops e = elim (cases_Bool (is_ascii_digit b)) [
   | inl digit ↦ digit_spelled form b text closing digit all stops (rw digit at e)

@@ -15,9 +15,9 @@ use Rattle.relation_text.specs.Laws.{AreFew, AtomsReadAreSpelled, ClausesReadAre
 use Rattle.relation_text.specs.Refusal.{bad_version_of, excess_from, fault_of, most_atoms}
 use Rattle.relation_text.specs.Spelling.{atom_of, atoms_between, clauses_of, is_blank, items_of, parts_of, provided_items_of, provided_of, separates}
 use Rattle.relation_text.specs.declared.cut.Separator.TheVariants.{Bar, Comma, CommaOrBar}
-use Rattle.relation_text.specs.declared.shape.Form.{Form}
-use Rattle.relation_text.specs.declared.shape.Form.TheVariants.{Clauses, Atoms, Provides}
-use Rattle.relation_text.specs.declared.shape.Place.TheVariants.{Between, Alternative}
+use Rattle.relation_text.specs.declared.shape.RelationForm.{RelationForm}
+use Rattle.relation_text.specs.declared.shape.RelationForm.TheVariants.{Clauses, Atoms, Provides}
+use Rattle.relation_text.specs.declared.shape.ShapePlace.TheVariants.{Between, Alternative}
 use Rattle.relation_text.proofs.AtomParse.{Ends, IsAtomOf, parse_alternative, parse_part}
 use Rattle.relation_text.proofs.AtomSpelling.{spelled_atom}
 use Rattle.relation_text.proofs.AtomText.{IsAtomText, IsOnePart}
@@ -47,25 +47,25 @@ atom_text_not_blank text name qualifier restriction is =
     ∙ stops_blank is.before (name ++ is.rest) (name_stops is_white (fails_white is_ascii_alphanumeric refl refl refl) name is.rest is.name_is)
     (name_some name is.rest is.name_is)
 
-atom_not_blank : (form : Form) (text : List ℕ) → IsAtomOf form text → is_blank text ≡ false
+atom_not_blank : (form : RelationForm) (text : List ℕ) → IsAtomOf form text → is_blank text ≡ false
 atom_not_blank form text is = atom_text_not_blank text is.name is.qualifier is.restriction is.atom
 
-parsed_atom : (form : Form) (arch text : List ℕ) → IsAtomOf form text → bad_version_of text ≡ None → SpellsAtom arch text (atom_of arch text)
+parsed_atom : (form : RelationForm) (arch text : List ℕ) → IsAtomOf form text → bad_version_of text ≡ None → SpellsAtom arch text (atom_of arch text)
 parsed_atom form arch text is fine =
     let cut = cut_atom text is.name is.qualifier is.restriction is.atom in
     subst (SpellsAtom arch text) (sym (atom_value arch text is.name is.qualifier is.restriction is.atom))
-    (spelled_atom arch text is.name is.qualifier is.restriction is.atom (faultless_from text is.restriction cut.found fine))
+    (spelled_atom arch text is.name is.qualifier is.restriction is.atom (faultless_from text is.restriction cut.restriction_is fine))
 
 parsed_provided : (arch text : List ℕ) → IsAtomOf Provides text → bad_version_of text ≡ None → SpellsProvided arch text (provided_of arch text)
 parsed_provided arch text is fine =
     let cut = cut_atom text is.name is.qualifier is.restriction is.atom in
     subst (SpellsAtom arch text) (sym (provided_value arch text is.name is.qualifier is.restriction is.atom is.takes))
-    (spelled_atom arch text is.name is.qualifier is.restriction is.atom (faultless_from text is.restriction cut.found fine))
+    (spelled_atom arch text is.name is.qualifier is.restriction is.atom (faultless_from text is.restriction cut.restriction_is fine))
 
 -- A part between commas
 
 -- a part that is fine
-record IsFinePart (form : Form) (text : List ℕ) : Type 0 where
+record IsFinePart (form : RelationForm) (text : List ℕ) : Type 0 where
   ends : Ends form Between text
   one : IsOnePart form text
   version : bad_version_of text ≡ None
@@ -82,7 +82,7 @@ provided_part arch text fine = elim (parse_part Provides text fine.ends fine.one
   | inr atom ↦ inr (atom_not_blank Provides text atom, parsed_provided arch text atom fine.version)
 ]
 
-fine_parts : (form : Form) (parts : List (List ℕ)) → AllByRecursion (Ends form Between) parts → AllByRecursion (IsOnePart form) parts
+fine_parts : (form : RelationForm) (parts : List (List ℕ)) → AllByRecursion (Ends form Between) parts → AllByRecursion (IsOnePart form) parts
     → AllByRecursion (λ text. bad_version_of text ≡ None) parts → AllByRecursion (IsFinePart form) parts
 fine_parts form [] ends ones versions = tt
 fine_parts form (text ∷ parts) ends ones versions =
@@ -91,14 +91,14 @@ fine_parts form (text ∷ parts) ends ones versions =
 comma_parts : (value : List ℕ) → join_with_byte 44 (parts_of Comma value) ≡ value
 comma_parts value = join_with_byte-slice_split 44 value
 
-ends_parts : (form : Form) (value : List ℕ) → IsFine form value → AllByRecursion (Ends form Between) (parts_of Comma value)
+ends_parts : (form : RelationForm) (value : List ℕ) → IsFine form value → AllByRecursion (Ends form Between) (parts_of Comma value)
 ends_parts form value fine = parts_end form (parts_of Comma value) (subst (Ends form Between) (sym (comma_parts value)) (accepted_shape form value fine.shape))
 
 pub list_spelled : {A : Type 0} (Spells : List ℕ → A → Type 0) (of : List ℕ → A) (value : List ℕ) → AllByRecursion (IsPart Spells of) (parts_of Comma value)
     → SpellsList Spells value (map of (items_of (parts_of Comma value)))
 list_spelled Spells of value all = record {
   parts = parts_of Comma value;
-  found = map (slot_of of) (parts_of Comma value);
+  slots = map (slot_of of) (parts_of Comma value);
   value_is = sym (comma_parts value);
   each = parts_spelled Spells of (parts_of Comma value) all;
   items_are = items_found of (parts_of Comma value);

@@ -2,20 +2,20 @@
 use Rattle.std.proofs.Common.{◌≡◌, ◌≢◌, ℕ, true, false, List, [], ◌∷◌, ◌++◌, refl, sym, ap, ◌∙◌, codes}
 use Rattle.relation_text.specs.Place.{is_end}
 use Rattle.relation_text.specs.Shape.{next, place_after, HasShape}
-use Rattle.relation_text.specs.declared.shape.Form.{Form}
-use Rattle.relation_text.specs.declared.shape.Place.{Place}
-use Rattle.relation_text.specs.declared.shape.Place.TheVariants.{Between, Alternative, InName, AfterName, BeforeQualifier, InQualifier, Opened, Less, Greater, AfterOperator, InVersion, AfterVersion, Closed, Dead}
+use Rattle.relation_text.specs.declared.shape.RelationForm.{RelationForm}
+use Rattle.relation_text.specs.declared.shape.ShapePlace.{ShapePlace}
+use Rattle.relation_text.specs.declared.shape.ShapePlace.TheVariants.{Between, Alternative, InName, AfterName, BeforeQualifier, InQualifier, Opened, Less, Greater, AfterOperator, InVersion, AfterVersion, Closed, Dead}
 
-pub place_after-dead : (form : Form) (bytes : List ℕ) → place_after form Dead bytes ≡ Dead
+pub place_after-dead : (form : RelationForm) (bytes : List ℕ) → place_after form Dead bytes ≡ Dead
 place_after-dead form [] = refl
 place_after-dead form (b ∷ bytes) = place_after-dead form bytes
 
-pub place_after-append : (form : Form) (place : Place) (front more : List ℕ) → place_after form place (front ++ more) ≡ place_after form (place_after form place front) more
+pub place_after-append : (form : RelationForm) (place : ShapePlace) (front more : List ℕ) → place_after form place (front ++ more) ≡ place_after form (place_after form place front) more
 place_after-append form place [] more = refl
 place_after-append form place (b ∷ front) more = place_after-append form (next form place b) front more
 
 -- bytes that lead from the place to an end
-abbrev pub completion_of : Place → List ℕ
+abbrev pub completion_of : ShapePlace → List ℕ
 completion_of Between = []
 completion_of Alternative = codes "a"
 completion_of InName = []
@@ -31,7 +31,7 @@ completion_of AfterVersion = codes ")"
 completion_of Closed = []
 completion_of Dead = []
 
-pub completes : (form : Form) (place : Place) → place ≢ Dead → is_end (place_after form place (completion_of place)) ≡ true
+pub completes : (form : RelationForm) (place : ShapePlace) → place ≢ Dead → is_end (place_after form place (completion_of place)) ≡ true
 completes form Between live = refl
 completes form Alternative live = refl
 completes form InName live = refl
@@ -47,13 +47,13 @@ completes form AfterVersion live = refl
 completes form Closed live = refl
 completes form Dead live = absurd (live refl)
 
-pub dead_front : (form : Form) (front more : List ℕ) → place_after form Between front ≡ Dead → HasShape form (front ++ more) → ⊥
+pub dead_front : (form : RelationForm) (front more : List ℕ) → place_after form Between front ≡ Dead → HasShape form (front ++ more) → ⊥
 dead_front form front more dead shape =
     let e = place_after-append form Between front more ∙ ap (λ place. place_after form place more) dead ∙ place_after-dead form more in
     let f : false ≡ true = sym (ap is_end e) ∙ shape in
     cc
 
-pub live_front : (form : Form) (front : List ℕ) → place_after form Between front ≢ Dead → (more : List ℕ) × HasShape form (front ++ more)
+pub live_front : (form : RelationForm) (front : List ℕ) → place_after form Between front ≢ Dead → (more : List ℕ) × HasShape form (front ++ more)
 live_front form front live = (
   completion_of (place_after form Between front),
   ap is_end (place_after-append form Between front (completion_of (place_after form Between front))) ∙ completes form (place_after form Between front) live,

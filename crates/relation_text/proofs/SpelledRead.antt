@@ -16,9 +16,9 @@ use Rattle.relation_text.specs.Spelling.{after_qualifier, after_run, atom_of, at
 use Rattle.rules.specs.Name.{is_name_byte}
 use Rattle.relation_text.specs.declared.cut.Separator.{Separator}
 use Rattle.relation_text.specs.declared.cut.Separator.TheVariants.{Bar, Comma, CommaOrBar}
-use Rattle.relation_text.specs.declared.shape.Form.{Form}
-use Rattle.relation_text.specs.declared.shape.Form.TheVariants.{Clauses, Atoms, Provides}
-use Rattle.relation_text.specs.declared.shape.Place.TheVariants.{Between, Alternative}
+use Rattle.relation_text.specs.declared.shape.RelationForm.{RelationForm}
+use Rattle.relation_text.specs.declared.shape.RelationForm.TheVariants.{Clauses, Atoms, Provides}
+use Rattle.relation_text.specs.declared.shape.ShapePlace.TheVariants.{Between, Alternative}
 use Rattle.relation_text.proofs.AtomBytes.{atom_bytes, is_atom_byte}
 use Rattle.relation_text.proofs.AtomLeads.{Leads, atom_end_is_end, atom_leads, begins_alternative, begins_between}
 use Rattle.relation_text.proofs.AtomParse.{Ends}
@@ -45,18 +45,18 @@ unfolding bad_version_of
 white_version text white =
     ap (λ (rest : List ℕ). option_and_then (bad_version_in text) (opened_at (after_run is_white (after_qualifier (after_run is_name_byte rest))))) (white_dropped text white)
 
-white_excludes : (form : Form) → Excludes is_white (separates (separator_of form))
+white_excludes : (form : RelationForm) → Excludes is_white (separates (separator_of form))
 white_excludes Clauses = white_fails (separates CommaOrBar) refl refl refl
 white_excludes Atoms = white_fails is_comma refl refl refl
 white_excludes Provides = white_fails is_comma refl refl refl
 
 -- a part that is read
-record IsGood (form : Form) (text : List ℕ) : Type 0 where
+record IsGood (form : RelationForm) (text : List ℕ) : Type 0 where
   one : IsOnePart form text
   ends : Ends form Between text
   version : bad_version_of text ≡ None
 
-white_good : (form : Form) (text : List ℕ) → IsWhite text → IsGood form text
+white_good : (form : RelationForm) (text : List ℕ) → IsWhite text → IsGood form text
 white_good form text white = record {
   one = run_free is_white (separates (separator_of form)) (white_excludes form) text white;
   ends = ap is_end (white_stays form text white);
@@ -65,7 +65,7 @@ white_good form text white = record {
 
 -- An atom
 
-atom_excludes : (form : Form) → Excludes is_atom_byte (separates (separator_of form))
+atom_excludes : (form : RelationForm) → Excludes is_atom_byte (separates (separator_of form))
 atom_excludes Clauses b in_atom = or_from (is_comma b) (is_bar b) (excludes_byte is_atom_byte 44 refl b in_atom) (excludes_byte is_atom_byte 124 refl b in_atom)
 atom_excludes Atoms b in_atom = excludes_byte is_atom_byte 44 refl b in_atom
 atom_excludes Provides b in_atom = excludes_byte is_atom_byte 44 refl b in_atom
@@ -73,13 +73,13 @@ atom_excludes Provides b in_atom = excludes_byte is_atom_byte 44 refl b in_atom
 atom_version : (arch text : List ℕ) (atom : Atom) → SpellsAtom arch text atom → bad_version_of text ≡ None
 atom_version arch text atom is =
     let cut = cut_atom text atom.name is.qualifier atom.restriction (atom_parts arch text atom is) in
-    no_bad_version text atom.restriction cut.found (atom_faultless arch text atom is)
+    no_bad_version text atom.restriction cut.restriction_is (atom_faultless arch text atom is)
 
 atom_free : (test : ℕ → Bool) → Excludes is_atom_byte test → (arch text : List ℕ) (atom : Atom) → SpellsAtom arch text atom → list_any test text ≡ false
 atom_free test excludes arch text atom is =
     run_free is_atom_byte test excludes text (atom_bytes text atom.name is.qualifier atom.restriction (atom_parts arch text atom is))
 
-atom_good : (form : Form) (arch text : List ℕ) (atom : Atom) → TakesAny form atom.restriction → SpellsAtom arch text atom → IsGood form text
+atom_good : (form : RelationForm) (arch text : List ℕ) (atom : Atom) → TakesAny form atom.restriction → SpellsAtom arch text atom → IsGood form text
 atom_good form arch text atom takes is = record {
   one = atom_free (separates (separator_of form)) (atom_excludes form) arch text atom is;
   ends = atom_end_is_end _ (atom_leads form Between (begins_between form) text atom.name is.qualifier atom.restriction (atom_parts arch text atom is) takes);
@@ -130,24 +130,24 @@ provided_item arch text item is = record { some = atom_some arch text (atom_of_p
 
 -- A list of parts between commas
 
-record IsReadList {A : Type 0} (form : Form) (of : List ℕ → A) (value : List ℕ) (items : List A) : Type 0 where
+record IsReadList {A : Type 0} (form : RelationForm) (of : List ℕ → A) (value : List ℕ) (items : List A) : Type 0 where
   fine : IsFine form value
   items_are : map of (items_of (parts_of Comma value)) ≡ items
 
-comma_free : (form : Form) → separator_of form ≡ Comma → (text : List ℕ) → IsOnePart form text → list_any is_comma text ≡ false
+comma_free : (form : RelationForm) → separator_of form ≡ Comma → (text : List ℕ) → IsOnePart form text → list_any is_comma text ≡ false
 comma_free form by_comma text one = subst (λ (separator : Separator). list_any (separates separator) text ≡ false) by_comma one
 
-list_read : {A : Type 0} (form : Form) → separator_of form ≡ Comma → (Spells : List ℕ → A → Type 0) (of : List ℕ → A)
+list_read : {A : Type 0} (form : RelationForm) → separator_of form ≡ Comma → (Spells : List ℕ → A → Type 0) (of : List ℕ → A)
     → ((text : List ℕ) (item : A) → Spells text item → IsGood form text) → ((text : List ℕ) (item : A) → Spells text item → IsItem of text item)
     → (value : List ℕ) (items : List A) → SpellsList Spells value items → AreFew items → IsReadList form of value items
 list_read {A} form by_comma Spells of good back value items is few =
     let some = some_parts Spells value items is in
     let parts = some.first ∷ some.later in
-    let all : AllByRecursion (IsGood form) parts = parts_fact Spells (IsGood form) (white_good form) good parts some.found some.each in
+    let all : AllByRecursion (IsGood form) parts = parts_fact Spells (IsGood form) (white_good form) good parts some.slots some.each in
     let free = all_map (IsGood form) (λ (text : List ℕ). list_any is_comma text ≡ false) (λ text is. comma_free form by_comma text is.one) parts all in
     let split : parts_of Comma value ≡ parts = ap (parts_of Comma) some.value_is ∙ split_joined is_comma 44 refl some.first some.later free in
     let values : map of (items_of (parts_of Comma value)) ≡ items
-    = ap (λ (parts : List (List ℕ)). map of (items_of parts)) split ∙ items_back Spells of back parts some.found some.each ∙ sym some.items_are in
+    = ap (λ (parts : List (List ℕ)). map of (items_of parts)) split ∙ items_back Spells of back parts some.slots some.each ∙ sym some.items_are in
     let count : length (items_of (parts_of Comma value)) ≡ length items = sym (length-map (items_of (parts_of Comma value)) of) ∙ ap (λ (items : List A). length items) values in
     let same_parts : parts_of (separator_of form) value ≡ parts_of Comma value = ap (λ (separator : Separator). parts_of separator value) by_comma in
     record {
@@ -162,7 +162,7 @@ list_read {A} form by_comma Spells of good back value items is few =
       items_are = values;
     }
 
-read_ok : {A : Type 0} (form : Form) (value : List ℕ) (read items : A) → IsFine form value → read ≡ items → unless_refused (fault_of form value) read ≡ Ok items
+read_ok : {A : Type 0} (form : RelationForm) (value : List ℕ) (read items : A) → IsFine form value → read ≡ items → unless_refused (fault_of form value) read ≡ Ok items
 read_ok form value read items fine e = let clean = no_fault form value fine in rw clean (λ i. Ok (e i))
 
 pub atoms_spelled_are_read : AtomsSpelledAreRead
@@ -271,12 +271,12 @@ clauses_read : (arch value : List ℕ) (clauses : List (List Atom)) → SpellsCl
 clauses_read arch value clauses is few =
     let some = some_parts (SpellsClause arch) value clauses is in
     let parts = some.first ∷ some.later in
-    let all : AllByRecursion IsGoodClause parts = parts_fact (SpellsClause arch) IsGoodClause white_clause (λ text clause is. (clause_read arch text clause is).good) parts some.found some.each in
+    let all : AllByRecursion IsGoodClause parts = parts_fact (SpellsClause arch) IsGoodClause white_clause (λ text clause is. (clause_read arch text clause is).good) parts some.slots some.each in
     let free = all_map IsGoodClause (λ (text : List ℕ). list_any is_comma text ≡ false) (λ text is. is.free) parts all in
     let split : parts_of Comma value ≡ parts = ap (parts_of Comma) some.value_is ∙ split_joined is_comma 44 refl some.first some.later free in
     let values : clauses_of arch value ≡ clauses
     = ap (λ (parts : List (List ℕ)). map (atoms_between Bar arch) (items_of parts)) split
-    ∙ items_back (SpellsClause arch) (atoms_between Bar arch) (λ text clause is. (clause_read arch text clause is).item) parts some.found some.each
+    ∙ items_back (SpellsClause arch) (atoms_between Bar arch) (λ text clause is. (clause_read arch text clause is).item) parts some.slots some.each
     ∙ sym some.items_are in
     let versions : AllByRecursion (λ (text : List ℕ). bad_version_of text ≡ None) (flat_map (parts_of Bar) parts)
     = all_flat (λ (text : List ℕ). bad_version_of text ≡ None) (parts_of Bar) parts

@@ -100,10 +100,10 @@ SpellsPart Spells text (Some item) = Spells text item
 -- (Policy 7.1)
 pub record SpellsList {A : Type 0} (Spells : List ℕ → A → Type 0) (value : List ℕ) (items : List A) : Type 0 where
   pub parts : List (List ℕ)
-  pub found : List (Option A)
+  pub slots : List (Option A)
   pub value_is : value ≡ between_commas parts
-  pub each : AllZip (SpellsPart Spells) parts found
-  pub items_are : items ≡ filter_map (λ item. item) found
+  pub each : AllZip (SpellsPart Spells) parts slots
+  pub items_are : items ≡ filter_map (λ item. item) slots
 
 -- a value of Pre-Depends or Depends spells these clauses (Policy 7.2)
 abbrev pub SpellsClauses : List ℕ → List ℕ → List (List Atom) → Type 0

@@ -1,10 +1,10 @@
 -- The places of the automaton that reads a relation field's value (Policy 7.1).
 use Rattle.std.specs.Prelude.{Bool, true, false}
-use Rattle.relation_text.specs.declared.shape.Place.{Place}
-use Rattle.relation_text.specs.declared.shape.Place.TheVariants.{Between, Alternative, InName, AfterName, BeforeQualifier, InQualifier, Opened, Less, Greater, AfterOperator, InVersion, AfterVersion, Closed, Dead}
+use Rattle.relation_text.specs.declared.shape.ShapePlace.{ShapePlace}
+use Rattle.relation_text.specs.declared.shape.ShapePlace.TheVariants.{Between, Alternative, InName, AfterName, BeforeQualifier, InQualifier, Opened, Less, Greater, AfterOperator, InVersion, AfterVersion, Closed, Dead}
 
 -- a value may end here
-abbrev pub is_end : Place → Bool
+abbrev pub is_end : ShapePlace → Bool
 is_end Between = true
 is_end Alternative = false
 is_end InName = true
@@ -21,7 +21,7 @@ is_end Closed = true
 is_end Dead = false
 
 -- the place from which nothing leads on
-abbrev pub is_dead : Place → Bool
+abbrev pub is_dead : ShapePlace → Bool
 is_dead Between = false
 is_dead Alternative = false
 is_dead InName = false
@@ -38,7 +38,7 @@ is_dead Closed = false
 is_dead Dead = true
 
 -- a name or a qualifier could begin here
-abbrev pub awaits_name : Place → Bool
+abbrev pub awaits_name : ShapePlace → Bool
 awaits_name Between = true
 awaits_name Alternative = true
 awaits_name InName = false

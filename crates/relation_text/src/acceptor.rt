@@ -3,14 +3,14 @@ ghost use Rattle.std.specs.Prelude.{◌≡◌, ◌<◌, IfOk, IsTrue, MatchResul
 ghost use Rattle.relation_text.specs.Quick as Spec;
 ghost use Rattle.relation_text.specs.Quick.{IsTable, quick_accepts, quick_after};
 ghost use Rattle.relation_text.specs.Refusal.{fault_of};
-ghost use Rattle.relation_text.specs.declared.quick.State.TheVariants.{At};
-ghost use Rattle.relation_text.specs.declared.shape.Form.TheVariants as form_is;
-ghost use Rattle.relation_text.specs.declared.shape.Place.TheVariants.{Between};
+ghost use Rattle.relation_text.specs.declared.quick.QuickState.TheVariants.{At};
+ghost use Rattle.relation_text.specs.declared.shape.RelationForm.TheVariants as form_is;
+ghost use Rattle.relation_text.specs.declared.shape.ShapePlace.TheVariants.{Between};
 
 use crate::error::RelationFault;
 use crate::quick::{number_of, place_of, quick_next, state_of};
 use crate::refusal::{MOST_ATOMS, check};
-use crate::shape::{Form, is_end};
+use crate::shape::{RelationForm, is_end};
 use std::alloc::{AllocError, Global};
 
 // How many cells a table has: 17 rows, one a state, of 256.
@@ -29,14 +29,14 @@ pub struct Acceptor {
 }
 
 #[tactic(auto, unfolding(crate::specs::Quick::cell))]
-fn cell(form: Form, at: usize) -> u8
+fn cell(form: RelationForm, at: usize) -> u8
     requires { at < 4352 }
     ensures { result ≡ Spec.cell form at }
 {
     number_of(quick_next(form, state_of((at / 256) as u8), (at % 256) as u8))
 }
 
-fn table(alloc: Global, form: Form) -> Result<Vec<u8>, AllocError>
+fn table(alloc: Global, form: RelationForm) -> Result<Vec<u8>, AllocError>
     ensures { IfOk result (λ table. IsTable form table.items) }
 {
     let mut table = Vec::with_capacity(alloc, CELLS)?;
@@ -49,9 +49,9 @@ fn table(alloc: Global, form: Form) -> Result<Vec<u8>, AllocError>
 impl Acceptor {
     /// The tables of the three forms. Memory alone can fail: 13 thousand bytes are taken.
     pub fn new(alloc: Global) -> Result<Acceptor, AllocError> {
-        let clauses = table(alloc, Form::Clauses)?;
-        let atoms = table(alloc, Form::Atoms)?;
-        let provides = table(alloc, Form::Provides)?;
+        let clauses = table(alloc, RelationForm::Clauses)?;
+        let atoms = table(alloc, RelationForm::Atoms)?;
+        let provides = table(alloc, RelationForm::Provides)?;
         Ok(Acceptor {
             clauses,
             atoms,
@@ -59,18 +59,18 @@ impl Acceptor {
         })
     }
 
-    fn table_of(&self, form: Form) -> &[u8]
+    fn table_of(&self, form: RelationForm) -> &[u8]
         ensures { IsTable form result.now }
     {
         match form {
-            Form::Clauses => self.clauses.as_slice(),
-            Form::Atoms => self.atoms.as_slice(),
-            Form::Provides => self.provides.as_slice(),
+            RelationForm::Clauses => self.clauses.as_slice(),
+            RelationForm::Atoms => self.atoms.as_slice(),
+            RelationForm::Provides => self.provides.as_slice(),
         }
     }
 
     // The number of the state behind the value.
-    fn number_after(&self, form: Form, value: &[u8]) -> u8
+    fn number_after(&self, form: RelationForm, value: &[u8]) -> u8
         ensures { result ≡ Spec.number_of (quick_after form (At Between) value.now) }
     {
         let table = self.table_of(form);
@@ -83,7 +83,7 @@ impl Acceptor {
 
     /// Whether the tables accept the value, which then isn't refused: where it has fewer than 65,535 bytes, and the quick
     /// reading of them comes to an end. One look a byte.
-    pub fn accepts(&self, form: Form, value: &[u8]) -> bool
+    pub fn accepts(&self, form: RelationForm, value: &[u8]) -> bool
         ensures exact { result ≡ quick_accepts form value.now }
         ensures sound { IsTrue result → fault_of form value.now ≡ None }
     {
@@ -91,8 +91,9 @@ impl Acceptor {
     }
 
     /// Tests the value of a relation field, as `check` does, and takes no memory.
-    pub fn check_by(&self, form: Form, value: &[u8]) -> Result<(), RelationFault>
-        ensures { MatchResult result (λ _. fault_of form value.now ≡ None) (λ fault. fault_of form value.now ≡ Some fault) }
+    pub fn check_by(&self, form: RelationForm, value: &[u8]) -> Result<(), RelationFault>
+        ensures { MatchResult result (λ _. fault_of form value.now ≡ None)
+            (λ fault. fault_of form value.now ≡ Some fault) }
     {
         if self.accepts(form, value) {
             Ok(())

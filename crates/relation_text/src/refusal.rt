@@ -4,27 +4,27 @@ ghost use Rattle.relation_text.specs.Refusal as Spec;
 ghost use Rattle.relation_text.specs.Refusal.{atom_start, bad_version_of, excess_from, fault_of, more_after, most_atoms, shape_refusal_from, version_refusal_from};
 ghost use Rattle.relation_text.specs.Shape.{HasShape, IsFirstStop};
 ghost use Rattle.relation_text.specs.Spelling.{parts_of};
-ghost use Rattle.relation_text.specs.declared.refusal.Refusal.{Refusal as RefusalOf};
-ghost use Rattle.relation_text.specs.declared.shape.Form.{Form as FormOf};
-ghost use Rattle.relation_text.specs.declared.shape.Place.TheVariants.{Between};
+ghost use Rattle.relation_text.specs.declared.refusal.RelationRefusal.{RelationRefusal as RelationRefusalOf};
+ghost use Rattle.relation_text.specs.declared.shape.RelationForm.{RelationForm as FormOf};
+ghost use Rattle.relation_text.specs.declared.shape.ShapePlace.TheVariants.{Between};
 
 use crate::cut::{
     Separator, after_white, cut_part, inside_of, is_blank, is_version, split_operator,
     version_front,
 };
 use crate::error::RelationFault;
-use crate::shape::{Form, Place, awaits_name, is_dead, is_end, next};
+use crate::shape::{RelationForm, ShapePlace, awaits_name, is_dead, is_end, next};
 
 /// A refusal, with the offset by which the least is found.
 #[derive(Clone, Copy, PartialEq, Eq)]
-pub struct Refusal {
+pub struct RelationRefusal {
     pub offset: usize,
     pub fault: RelationFault,
 }
 
 pub const MOST_ATOMS: usize = 65535;
 
-fn stop_at(place: Place, offset: usize) -> Refusal
+fn stop_at(place: ShapePlace, offset: usize) -> RelationRefusal
     ensures { result ≡ Spec.stop_at place offset }
 {
     let fault = if awaits_name(place) {
@@ -32,14 +32,14 @@ fn stop_at(place: Place, offset: usize) -> Refusal
     } else {
         RelationFault::BadRelation(offset)
     };
-    Refusal { offset, fault }
+    RelationRefusal { offset, fault }
 }
 
 // The first byte with which no text of the form goes on, or the end where it comes too early.
-fn shape_refusal(form: Form, value: &[u8]) -> Option<Refusal>
+fn shape_refusal(form: RelationForm, value: &[u8]) -> Option<RelationRefusal>
     ensures { result ≡ shape_refusal_from form Between 0 value.now }
 {
-    let mut place = Place::Between;
+    let mut place = ShapePlace::Between;
     for (offset, byte) in value.iter().enumerate() {
         let after = next(form, place, *byte);
         if is_dead(after) {
@@ -69,26 +69,26 @@ fn bad_version_of(text: &[u8]) -> Option<usize>
     }
 }
 
-fn bad_version_at(offset: usize) -> Refusal
+fn bad_version_at(offset: usize) -> RelationRefusal
     ensures { result ≡ Spec.bad_version_at offset }
 {
-    Refusal {
+    RelationRefusal {
         offset,
         fault: RelationFault::BadRelation(offset),
     }
 }
 
-fn too_large_at(offset: usize) -> Refusal
+fn too_large_at(offset: usize) -> RelationRefusal
     ensures { result ≡ Spec.too_large_at offset }
 {
-    Refusal {
+    RelationRefusal {
         offset,
         fault: RelationFault::TooLarge,
     }
 }
 
 // The first version that is refused.
-fn version_refusal(separator: Separator, value: &[u8]) -> Option<Refusal>
+fn version_refusal(separator: Separator, value: &[u8]) -> Option<RelationRefusal>
     ensures { result ≡ version_refusal_from 0 (parts_of separator value.now) }
 {
     let mut left = Some(value);
@@ -122,7 +122,7 @@ fn atom_start(part: &[u8]) -> usize
 }
 
 // The first atom too many among the parts.
-fn excess_among(separator: Separator, value: &[u8]) -> Option<Refusal>
+fn excess_among(separator: Separator, value: &[u8]) -> Option<RelationRefusal>
     ensures { result ≡ excess_from most_atoms 0 (parts_of separator value.now) }
 {
     let mut more = MOST_ATOMS;
@@ -139,7 +139,7 @@ fn excess_among(separator: Separator, value: &[u8]) -> Option<Refusal>
 }
 
 // The first atom too many: a value of fewer bytes has none.
-fn excess(separator: Separator, value: &[u8]) -> Option<Refusal>
+fn excess(separator: Separator, value: &[u8]) -> Option<RelationRefusal>
     ensures { result ≡ excess_from most_atoms 0 (parts_of separator value.now) }
 {
     if value.len() < MOST_ATOMS {
@@ -149,7 +149,10 @@ fn excess(separator: Separator, value: &[u8]) -> Option<Refusal>
     }
 }
 
-fn sooner(refusal: Option<Refusal>, other: Option<Refusal>) -> Option<Refusal>
+fn sooner(
+    refusal: Option<RelationRefusal>,
+    other: Option<RelationRefusal>,
+) -> Option<RelationRefusal>
     ensures { result ≡ Spec.sooner refusal other }
 {
     match (refusal, other) {
@@ -165,16 +168,16 @@ fn sooner(refusal: Option<Refusal>, other: Option<Refusal>) -> Option<Refusal>
     }
 }
 
-fn separator_of(form: Form) -> Separator
+fn separator_of(form: RelationForm) -> Separator
     ensures { result ≡ Spec.separator_of form }
 {
     match form {
-        Form::Clauses => Separator::CommaOrBar,
-        Form::Atoms | Form::Provides => Separator::Comma,
+        RelationForm::Clauses => Separator::CommaOrBar,
+        RelationForm::Atoms | RelationForm::Provides => Separator::Comma,
     }
 }
 
-fn least_refusal(form: Form, value: &[u8]) -> Option<Refusal>
+fn least_refusal(form: RelationForm, value: &[u8]) -> Option<RelationRefusal>
     ensures { result ≡ Spec.least_refusal form value.now }
 {
     let separator = separator_of(form);
@@ -187,8 +190,9 @@ fn least_refusal(form: Form, value: &[u8]) -> Option<Refusal>
 /// Tests the value of a relation field (Policy 7.1) and takes no memory: the answer is the refusal that the
 /// parser of this form gives. Two passes over the value, and a third where it is long enough to have an atom too many.
 #[tactic(auto, unfolding(crate::specs::Refusal::fault_of))]
-pub fn check(form: Form, value: &[u8]) -> Result<(), RelationFault>
-    ensures { MatchResult result (λ _. fault_of form value.now ≡ None) (λ fault. fault_of form value.now ≡ Some fault) }
+pub fn check(form: RelationForm, value: &[u8]) -> Result<(), RelationFault>
+    ensures { MatchResult result (λ _. fault_of form value.now ≡ None)
+        (λ fault. fault_of form value.now ≡ Some fault) }
 {
     match least_refusal(form, value) {
         None => Ok(()),
@@ -199,7 +203,9 @@ pub fn check(form: Form, value: &[u8]) -> Result<(), RelationFault>
 /// A value has the shape of the form, or its shape is refused at the first byte with which no text of the form
 /// goes on: up to it some text does. At the end it is refused where it ends too early.
 pub fn a_shape_is_refused_at_the_first_byte_that_goes_on_with_no_text()
-    ensures accepted { (form : FormOf) (value : List ℕ) → shape_refusal_from form Between 0 value ≡ None → HasShape form value }
-    ensures refused { (form : FormOf) (value : List ℕ) (refusal : RefusalOf) →
-        shape_refusal_from form Between 0 value ≡ Some refusal → IsFirstStop form value refusal.offset }
+    ensures accepted { (form : FormOf) (value : List ℕ) → shape_refusal_from form Between 0 value
+        ≡ None → HasShape form value }
+    ensures refused { (form : FormOf) (value : List ℕ) (refusal : RelationRefusalOf) →
+        shape_refusal_from form Between 0 value ≡ Some refusal
+        → IsFirstStop form value refusal.offset }
 {}

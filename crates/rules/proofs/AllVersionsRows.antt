@@ -49,7 +49,7 @@ asking asks_all_versions = record {
 
 -- of nothing at the start nothing holds
 none_present : (P : Record → Type 0) → Any P [] → ⊥
-none_present P some = Any-elim P [] ⊥ (λ found within holds. Contains-nil found within) some
+none_present P some = Any-elim P [] ⊥ (λ entry within holds. Contains-nil entry within) some
 
 -- both versions of libx have the priority 500, and libx 1 has no other
 priority_1 : (all : Bool) → HasPriority (asking all) (codes "libx") (codes "1") (pos 500)

@@ -15,42 +15,42 @@ use Rattle.rules.specs.Version.{SameVersion}
 use Rattle.rules.proofs.Decided.{dec_IsTrue, dec_IsFalse, dec_and, dec_and3, dec_or, dec_not, dec_implies, dec_text, dec_All, dec_Any, dec_Contains}
 use Rattle.rules.proofs.DecidedPackages.{dec_Meets, dec_FitsByProvides, dec_Matches, dec_MatchesSome, dec_ConflictsWith, dec_BreaksOther, dec_MeetsClauses, dec_SameVersion}
 
-unfoldable pub dec_HasRecord : (P : Record → Type 0) → ((found : Record) → Dec (P found)) → (name : List ℕ) (db : List Record) → Dec (HasRecord P name db)
+unfoldable pub dec_HasRecord : (P : Record → Type 0) → ((entry : Record) → Dec (P entry)) → (name : List ℕ) (db : List Record) → Dec (HasRecord P name db)
 dec_HasRecord P each name db =
-    dec_Any (λ found. (found.name ≡ name) × P found) (λ found. dec_and (dec_text found.name name) (each found)) db
+    dec_Any (λ entry. (entry.name ≡ name) × P entry) (λ entry. dec_and (dec_text entry.name name) (each entry)) db
 
-unfoldable pub dec_ForOthers : (P : Record → Type 0) → ((found : Record) → Dec (P found)) → (name : List ℕ) (db : List Record) → Dec (ForOthers P name db)
+unfoldable pub dec_ForOthers : (P : Record → Type 0) → ((entry : Record) → Dec (P entry)) → (name : List ℕ) (db : List Record) → Dec (ForOthers P name db)
 dec_ForOthers P each name db = dec_All (λ other. other.name ≢ name → P other)
     (λ other. dec_implies (dec_not (dec_text other.name name)) (each other)) db
 
-unfoldable pub dec_SomeOther : (P : Record → Type 0) → ((found : Record) → Dec (P found)) → (name : List ℕ) (db : List Record) → Dec (SomeOther P name db)
+unfoldable pub dec_SomeOther : (P : Record → Type 0) → ((entry : Record) → Dec (P entry)) → (name : List ℕ) (db : List Record) → Dec (SomeOther P name db)
 dec_SomeOther P each name db = dec_Any (λ other. (other.name ≢ name) × P other)
     (λ other. dec_and (dec_not (dec_text other.name name)) (each other)) db
 
-unfoldable pub dec_ForMembers : (P : Record → Type 0) → ((found : Record) → Dec (P found)) → (names : List (List ℕ)) (db : List Record) → Dec (ForMembers P names db)
+unfoldable pub dec_ForMembers : (P : Record → Type 0) → ((entry : Record) → Dec (P entry)) → (names : List (List ℕ)) (db : List Record) → Dec (ForMembers P names db)
 dec_ForMembers P each names db = dec_All (λ member. Contains names member.name → P member)
     (λ member. dec_implies (dec_Contains names member.name) (each member)) db
 
-unfoldable pub dec_FitsThenAndNow : (found : Record) (atom : Atom) (config_version : List ℕ) → Dec (FitsThenAndNow found atom config_version)
+unfoldable pub dec_FitsThenAndNow : (entry : Record) (atom : Atom) (config_version : List ℕ) → Dec (FitsThenAndNow entry atom config_version)
 unfolding FitsThenAndNow
-dec_FitsThenAndNow found atom config_version = dec_or
-    (dec_and3 (dec_text found.name atom.name) (dec_Meets found.version atom.restriction) (dec_Meets config_version atom.restriction))
-    (dec_FitsByProvides (pkg_of found) atom)
+dec_FitsThenAndNow entry atom config_version = dec_or
+    (dec_and3 (dec_text entry.name atom.name) (dec_Meets entry.version atom.restriction) (dec_Meets config_version atom.restriction))
+    (dec_FitsByProvides (pkg_of entry) atom)
 
 -- of what is there, where it is decided of each
 unfoldable pub dec_MatchOption : {X : Type 0} (P : X → Type 0) → ((x : X) → Dec (P x)) → (o : Option X) → Dec (MatchOption o ⊥ P)
 dec_MatchOption P each None = no (λ e. e)
 dec_MatchOption P each (Some x) = each x
 
-unfoldable pub dec_FitsFromBefore : (found : Record) (atom : Atom) → Dec (FitsFromBefore found atom)
+unfoldable pub dec_FitsFromBefore : (entry : Record) (atom : Atom) → Dec (FitsFromBefore entry atom)
 unfolding FitsFromBefore
-dec_FitsFromBefore found atom = dec_and (dec_IsTrue (is_unconfigured_state found.state))
-    (dec_MatchOption (FitsThenAndNow found atom) (dec_FitsThenAndNow found atom) (last_configured found))
+dec_FitsFromBefore entry atom = dec_and (dec_IsTrue (is_unconfigured_state entry.state))
+    (dec_MatchOption (FitsThenAndNow entry atom) (dec_FitsThenAndNow entry atom) (last_configured entry))
 
-unfoldable pub dec_SatisfiesAtom : (found : Record) (atom : Atom) → Dec (SatisfiesAtom found atom)
+unfoldable pub dec_SatisfiesAtom : (entry : Record) (atom : Atom) → Dec (SatisfiesAtom entry atom)
 unfolding SatisfiesAtom
-dec_SatisfiesAtom found atom = dec_and (dec_IsFalse atom.foreign)
-    (dec_or (dec_and (dec_IsTrue (is_installed_state found.state)) (dec_Matches (pkg_of found) atom)) (dec_FitsFromBefore found atom))
+dec_SatisfiesAtom entry atom = dec_and (dec_IsFalse atom.foreign)
+    (dec_or (dec_and (dec_IsTrue (is_installed_state entry.state)) (dec_Matches (pkg_of entry) atom)) (dec_FitsFromBefore entry atom))
 
 unfoldable pub dec_IsSatisfied : (db : List Record) (name : List ℕ) (clause : List Atom) → Dec (IsSatisfied db name clause)
 unfolding IsSatisfied
@@ -77,21 +77,21 @@ dec_BreaksNone db pkg = dec_ForOthers (λ other. IsInstalled other → ¬ Breaks
 
 unfoldable pub dec_OnListed : (P : Pkg → Type 0) → ((pkg : Pkg) → Dec (P pkg)) → (listed : Option IndexPackage) → Dec (OnListed P listed)
 dec_OnListed P each None = yes tt
-dec_OnListed P each (Some found) = each found.pkg
+dec_OnListed P each (Some listed) = each listed.pkg
 
 unfoldable pub dec_IsNotHeld : (db : List Record) (name : List ℕ) → Dec (IsNotHeld db name)
 unfolding IsNotHeld
-dec_IsNotHeld db name = dec_not (dec_HasRecord IsHeld (λ found. dec_IsTrue (is_hold found.want)) name db)
+dec_IsNotHeld db name = dec_not (dec_HasRecord IsHeld (λ entry. dec_IsTrue (is_hold entry.want)) name db)
 
 unfoldable pub dec_StandsAs : (db : List Record) (name version : List ℕ) → Dec (StandsAs db name version)
 unfolding StandsAs
-dec_StandsAs db name version = dec_HasRecord (λ found. Stands found × SameVersion found.version version)
-    (λ found. dec_and (dec_IsTrue (stands found)) (dec_SameVersion found.version version)) name db
+dec_StandsAs db name version = dec_HasRecord (λ entry. Stands entry × SameVersion entry.version version)
+    (λ entry. dec_and (dec_IsTrue (stands entry)) (dec_SameVersion entry.version version)) name db
 
 unfoldable pub dec_AreConfigurable : (db : List Record) (names : List (List ℕ)) → Dec (AreConfigurable db names)
 unfolding AreConfigurable HasConfigurable
 dec_AreConfigurable db names = dec_All (λ name. HasRecord IsConfigurable name db)
-    (λ name. dec_HasRecord IsConfigurable (λ found. dec_and (dec_IsTrue (is_unconfigured_state found.state)) (dec_IsTrue (is_sound_flag found.flag))) name db) names
+    (λ name. dec_HasRecord IsConfigurable (λ entry. dec_and (dec_IsTrue (is_unconfigured_state entry.state)) (dec_IsTrue (is_sound_flag entry.flag))) name db) names
 
 unfoldable pub dec_ArePreDependsInstalled : (db : List Record) (names : List (List ℕ)) → Dec (ArePreDependsInstalled db names)
 unfolding ArePreDependsInstalled

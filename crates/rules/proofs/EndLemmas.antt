@@ -28,7 +28,7 @@ use mathlib.Core.Logic.{inl, inr}
 
 -- what a record's version and name need to be admitted, if it stands
 abbrev pub IsAdmissible : Universe → Record → Type 0
-IsAdmissible u found = Stands found → HasPair u found.name found.version
+IsAdmissible u entry = Stands entry → HasPair u entry.name entry.version
 
 -- where a test passes both parts
 pub both_true : (x y : Bool) → IsTrue (x && y) → IsTrue x × IsTrue y
@@ -37,25 +37,25 @@ both_true true false is = absurd (let e : false ≡ true = is in cc)
 both_true false y is = absurd (let e : false ≡ true = is in cc)
 
 -- a record that may be configured stands, and so does an installed one with a sound flag
-configurable_stands : (found : Record) → IsConfigurable found → Stands found
-configurable_stands found may = rw (may.0, may.1) refl
+configurable_stands : (entry : Record) → IsConfigurable entry → Stands entry
+configurable_stands entry may = rw (may.0, may.1) refl
 
-installed_stands : (found : Record) → IsInstalled found → IsTrue (is_sound_flag found.flag) → Stands found
-installed_stands found is sound = rw (is, sound) (or_true (is_unconfigured_state found.state))
+installed_stands : (entry : Record) → IsInstalled entry → IsTrue (is_sound_flag entry.flag) → Stands entry
+installed_stands entry is sound = rw (is, sound) (or_true (is_unconfigured_state entry.state))
   where
     or_true : (b : Bool) → ((b || true) && true) ≡ true
     or_true true = refl
     or_true false = refl
 
 -- what stands has a sound flag
-stands_sound : (found : Record) → Stands found → IsTrue (is_sound_flag found.flag)
-stands_sound found is = (both_true (is_unconfigured_state found.state || is_installed_state found.state) (is_sound_flag found.flag) is).1
+stands_sound : (entry : Record) → Stands entry → IsTrue (is_sound_flag entry.flag)
+stands_sound entry is = (both_true (is_unconfigured_state entry.state || is_installed_state entry.state) (is_sound_flag entry.flag) is).1
 
 -- a change of the records that a test names keeps a property of all records, where it gives it to those
 All-changed : (P : Record → Type 0) (test : Record → Bool) (change : Record → Record) (db : List Record)
-    → ((found : Record) → Contains db found → test found ≡ true → P (change found)) → All P db → All P (changed test change db)
-All-changed P test change db each all = All-intro P (changed test change db) (λ found within.
-    let old = Contains-map (λ r. cond (test r) (change r) r) db found within in
+    → ((entry : Record) → Contains db entry → test entry ≡ true → P (change entry)) → All P db → All P (changed test change db)
+All-changed P test change db each all = All-intro P (changed test change db) (λ entry within.
+    let old = Contains-map (λ r. cond (test r) (change r) r) db entry within in
     subst P old.2 (at old.0 old.1 (test old.0) refl))
   where
     at : (old : Record) → Contains db old → (b : Bool) → test old ≡ b → P (cond b (change old) old)
@@ -63,13 +63,13 @@ All-changed P test change db each all = All-intro P (changed test change db) (λ
     at old within false is = All-contains P db old all within
 
 -- a record that the change leaves alone, or changes to one with the property, is there afterwards
-Any-changed : (P : Record → Type 0) (test : Record → Bool) (change : Record → Record) (db : List Record) (found : Record)
-    → Contains db found → P found → (test found ≡ true → P (change found)) → Any P (changed test change db)
-Any-changed P test change db found within holds changes = Any-intro P (changed test change db)
-    (cond (test found) (change found) found)
-    (Contains-map_intro (λ r. cond (test r) (change r) r) db found within) (at (test found) refl)
+Any-changed : (P : Record → Type 0) (test : Record → Bool) (change : Record → Record) (db : List Record) (entry : Record)
+    → Contains db entry → P entry → (test entry ≡ true → P (change entry)) → Any P (changed test change db)
+Any-changed P test change db entry within holds changes = Any-intro P (changed test change db)
+    (cond (test entry) (change entry) entry)
+    (Contains-map_intro (λ r. cond (test r) (change r) r) db entry within) (at (test entry) refl)
   where
-    at : (b : Bool) → test found ≡ b → P (cond b (change found) found)
+    at : (b : Bool) → test entry ≡ b → P (cond b (change entry) entry)
     at true is = changes is
     at false is = holds
 
@@ -78,8 +78,8 @@ listed_pair : (start : List Record) (u : Universe) → IsBuiltOn start u → (pa
     → ((pair : Pair) → Contains pairs pair → Contains u.pairs pair) → (name version : List ℕ) (listed : IndexPackage)
     → listed_among pairs name version ≡ Some listed → (listed.pkg.name ≡ name) × HasPair u listed.pkg.name listed.pkg.version
 unfolding HasPair
-listed_pair start u built [] within name version listed found = absurd (let e : None ≡ Some listed = found in cc)
-listed_pair start u built (pair ∷ rest) within name version listed found = at (is_of name version pair.pkg) refl found
+listed_pair start u built [] within name version listed is_listed = absurd (let e : None ≡ Some listed = is_listed in cc)
+listed_pair start u built (pair ∷ rest) within name version listed is_listed = at (is_of name version pair.pkg) refl is_listed
     (listed_pair start u built rest (λ other there. within other (Contains-rest pair rest other there)) name version listed)
   where
     here : is_of name version pair.pkg ≡ true → pair.listed ≡ Some listed
@@ -114,13 +114,13 @@ admissible_unpack u listed db has all = at (list_any (is_named listed.pkg.name) 
   where
     at : (b : Bool) → All (IsAdmissible u)
         (cond b (changed (is_named listed.pkg.name) (unpacked_over listed) db) (db ++ unpacked_with listed None ∷ []))
-    at true = All-changed (IsAdmissible u) (is_named listed.pkg.name) (unpacked_over listed) db (λ found within is stands. has) all
-    at false = All-intro (IsAdmissible u) (db ++ unpacked_with listed None ∷ []) (λ found within.
-        elim (Contains-append_cases db (unpacked_with listed None ∷ []) found within) [
-          | inl there ↦ All-contains (IsAdmissible u) db found all there
-          | inr last ↦ elim (Contains-cons (unpacked_with listed None) [] found last) [
+    at true = All-changed (IsAdmissible u) (is_named listed.pkg.name) (unpacked_over listed) db (λ entry within is stands. has) all
+    at false = All-intro (IsAdmissible u) (db ++ unpacked_with listed None ∷ []) (λ entry within.
+        elim (Contains-append_cases db (unpacked_with listed None ∷ []) entry within) [
+          | inl there ↦ All-contains (IsAdmissible u) db entry all there
+          | inr last ↦ elim (Contains-cons (unpacked_with listed None) [] entry last) [
             | inl same ↦ subst (IsAdmissible u) same (λ stands. has)
-            | inr none ↦ absurd (Contains-nil found none)
+            | inr none ↦ absurd (Contains-nil entry none)
           ]
         ])
 
@@ -135,17 +135,17 @@ admissible_kept start u built db (step.Unpack name version) distinct allowed all
     at None is = all
     at (Some listed) is = admissible_unpack u listed db (taken_pair start u built name version listed is).1 all
 admissible_kept start u built db (step.Deconfigure name) distinct allowed all = All-changed (IsAdmissible u) (is_named name) deconfigured db
-    (λ found within is stands. All-contains (IsAdmissible u) db found all within
-    (installed_stands found (the_named IsInstalled db distinct name (allowed 0 rule.WrongState (lit< tt)) found within is)
-    (stands_sound (deconfigured found) stands))) all
+    (λ entry within is stands. All-contains (IsAdmissible u) db entry all within
+    (installed_stands entry (the_named IsInstalled db distinct name (allowed 0 rule.WrongState (lit< tt)) entry within is)
+    (stands_sound (deconfigured entry) stands))) all
 admissible_kept start u built db (step.Configure names) distinct allowed all = All-changed (IsAdmissible u) (is_among names) configured db
-    (λ found within is stands. All-contains (IsAdmissible u) db found all within
-    (configurable_stands found (the_record IsConfigurable db distinct found within
-    (All-contains (λ name. HasRecord IsConfigurable name db) names found.name (allowed 0 rule.WrongState (lit< tt))
-    (contains-is_among names found is))))) all
+    (λ entry within is stands. All-contains (IsAdmissible u) db entry all within
+    (configurable_stands entry (the_record IsConfigurable db distinct entry within
+    (All-contains (λ name. HasRecord IsConfigurable name db) names entry.name (allowed 0 rule.WrongState (lit< tt))
+    (contains-is_among names entry is))))) all
 admissible_kept start u built db (step.Remove name) distinct allowed all = All-changed (IsAdmissible u) (is_named name) removed db
-    (λ found within is stands. absurd (let e : false ≡ true = stands in cc)) all
-admissible_kept start u built db (step.Purge name) distinct allowed all = All-filter (λ found. not (is_named name found)) (IsAdmissible u) db all
+    (λ entry within is stands. absurd (let e : false ≡ true = stands in cc)) all
+admissible_kept start u built db (step.Purge name) distinct allowed all = All-filter (λ entry. not (is_named name entry)) (IsAdmissible u) db all
 
 -- all records stay admissible along a run
 pub admissible_after_run : (start : List Record) (u : Universe) → IsBuiltOn start u → (db finish : List Record) (steps : List Step)
@@ -156,62 +156,62 @@ admissible_after_run start u built db finish (taken ∷ rest) distinct all run =
 
 -- the held package that stood at the start stands in its version
 abbrev pub StaysHeld : Record → Record → Type 0
-StaysHeld old found = (found.name ≡ old.name) × IsHeld found × Stands found × (found.version ≡ old.version)
+StaysHeld old entry = (entry.name ≡ old.name) × IsHeld entry × Stands entry × (entry.version ≡ old.version)
 
 -- the held name has a record that stays
-held_name : (db : List Record) (old found : Record) → Contains db found → StaysHeld old found → HasRecord IsHeld old.name db
-held_name db old found within stays = Any-intro (λ r. (r.name ≡ old.name) × IsHeld r) db found within (stays.0, stays.1)
+held_name : (db : List Record) (old entry : Record) → Contains db entry → StaysHeld old entry → HasRecord IsHeld old.name db
+held_name db old entry within stays = Any-intro (λ r. (r.name ≡ old.name) × IsHeld r) db entry within (stays.0, stays.1)
 
 -- a record of a held name isn't one of a name that isn't held
-isnt_unheld : (db : List Record) (name : List ℕ) → IsNotHeld db name → (old found : Record) → Contains db found → StaysHeld old found
-    → found.name ≢ name
+isnt_unheld : (db : List Record) (name : List ℕ) → IsNotHeld db name → (old entry : Record) → Contains db entry → StaysHeld old entry
+    → entry.name ≢ name
 unfolding IsNotHeld
-isnt_unheld db name free old found within stays same =
-    free (subst (λ n. HasRecord IsHeld n db) (sym stays.0 ∙ same) (held_name db old found within stays))
+isnt_unheld db name free old entry within stays same =
+    free (subst (λ n. HasRecord IsHeld n db) (sym stays.0 ∙ same) (held_name db old entry within stays))
 
 -- what stands still does once it is deconfigured or configured
-deconfigured_stays : (old found : Record) → StaysHeld old found → StaysHeld old (deconfigured found)
-deconfigured_stays old found stays = (stays.0, stays.1, rw (stands_sound found stays.2) refl, stays.3)
+deconfigured_stays : (old entry : Record) → StaysHeld old entry → StaysHeld old (deconfigured entry)
+deconfigured_stays old entry stays = (stays.0, stays.1, rw (stands_sound entry stays.2) refl, stays.3)
 
-configured_stays : (old found : Record) → StaysHeld old found → StaysHeld old (configured found)
-configured_stays old found stays = (stays.0, stays.1, rw (stands_sound found stays.2) refl, stays.3)
+configured_stays : (old entry : Record) → StaysHeld old entry → StaysHeld old (configured entry)
+configured_stays old entry stays = (stays.0, stays.1, rw (stands_sound entry stays.2) refl, stays.3)
 
-held_unpack : (listed : IndexPackage) (db : List Record) (old found : Record) → Contains db found → StaysHeld old found
-    → found.name ≢ listed.pkg.name → Any (StaysHeld old) (after_unpack listed db)
-held_unpack listed db old found within stays differ = at (list_any (is_named listed.pkg.name) db)
+held_unpack : (listed : IndexPackage) (db : List Record) (old entry : Record) → Contains db entry → StaysHeld old entry
+    → entry.name ≢ listed.pkg.name → Any (StaysHeld old) (after_unpack listed db)
+held_unpack listed db old entry within stays differ = at (list_any (is_named listed.pkg.name) db)
   where
     at : (b : Bool) → Any (StaysHeld old)
         (cond b (changed (is_named listed.pkg.name) (unpacked_over listed) db) (db ++ unpacked_with listed None ∷ []))
-    at true = Any-changed (StaysHeld old) (is_named listed.pkg.name) (unpacked_over listed) db found within stays
-        (λ is. absurd (differ (bytes_eq-true found.name listed.pkg.name is)))
-    at false = Any-intro (StaysHeld old) (db ++ unpacked_with listed None ∷ []) found
-        (Contains-append_left db (unpacked_with listed None ∷ []) found within) stays
+    at true = Any-changed (StaysHeld old) (is_named listed.pkg.name) (unpacked_over listed) db entry within stays
+        (λ is. absurd (differ (bytes_eq-true entry.name listed.pkg.name is)))
+    at false = Any-intro (StaysHeld old) (db ++ unpacked_with listed None ∷ []) entry
+        (Contains-append_left db (unpacked_with listed None ∷ []) entry within) stays
 
 -- an allowed step keeps a held package that stands
 held_kept : (start : List Record) (u : Universe) → IsBuiltOn start u → (db : List Record) (taken : Step) → Allowed u db taken
-    → (old found : Record) → Contains db found → StaysHeld old found → Any (StaysHeld old) (after u db taken)
+    → (old entry : Record) → Contains db entry → StaysHeld old entry → Any (StaysHeld old) (after u db taken)
 unfolding Allowed
-held_kept start u built db (step.Unpack name version) allowed old found within stays = at (listed_of u name version) refl
+held_kept start u built db (step.Unpack name version) allowed old entry within stays = at (listed_of u name version) refl
   where
     at : (listed : Option IndexPackage) → listed_of u name version ≡ listed
         → Any (StaysHeld old) (result_of listed (step.Unpack name version) db)
-    at None is = Any-intro (StaysHeld old) db found within stays
-    at (Some listed) is = held_unpack listed db old found within stays
-        (λ same. isnt_unheld db name (allowed 1 rule.Held (lit< tt)) old found within stays
+    at None is = Any-intro (StaysHeld old) db entry within stays
+    at (Some listed) is = held_unpack listed db old entry within stays
+        (λ same. isnt_unheld db name (allowed 1 rule.Held (lit< tt)) old entry within stays
         (same ∙ (taken_pair start u built name version listed is).0))
-held_kept start u built db (step.Deconfigure name) allowed old found within stays = Any-changed (StaysHeld old) (is_named name) deconfigured
-    db found within stays (λ is. deconfigured_stays old found stays)
-held_kept start u built db (step.Configure names) allowed old found within stays = Any-changed (StaysHeld old) (is_among names) configured
-    db found within stays (λ is. configured_stays old found stays)
-held_kept start u built db (step.Remove name) allowed old found within stays = Any-changed (StaysHeld old) (is_named name) removed
-    db found within stays (λ is. absurd (isnt_unheld db name (allowed 1 rule.Held (lit< tt)) old found within stays
-    (bytes_eq-true found.name name is)))
-held_kept start u built db (step.Purge name) allowed old found within stays = Any-intro (StaysHeld old)
-    (filter (λ r. not (is_named name r)) db) found
-    (Contains-filter_intro (λ r. not (is_named name r)) db found within (passes (is_named name found) refl)) stays
+held_kept start u built db (step.Deconfigure name) allowed old entry within stays = Any-changed (StaysHeld old) (is_named name) deconfigured
+    db entry within stays (λ is. deconfigured_stays old entry stays)
+held_kept start u built db (step.Configure names) allowed old entry within stays = Any-changed (StaysHeld old) (is_among names) configured
+    db entry within stays (λ is. configured_stays old entry stays)
+held_kept start u built db (step.Remove name) allowed old entry within stays = Any-changed (StaysHeld old) (is_named name) removed
+    db entry within stays (λ is. absurd (isnt_unheld db name (allowed 1 rule.Held (lit< tt)) old entry within stays
+    (bytes_eq-true entry.name name is)))
+held_kept start u built db (step.Purge name) allowed old entry within stays = Any-intro (StaysHeld old)
+    (filter (λ r. not (is_named name r)) db) entry
+    (Contains-filter_intro (λ r. not (is_named name r)) db entry within (passes (is_named name entry) refl)) stays
   where
-    passes : (b : Bool) → is_named name found ≡ b → not b ≡ true
-    passes true is = absurd (isnt_unheld db name (allowed 1 rule.Held (lit< tt)) old found within stays (bytes_eq-true found.name name is))
+    passes : (b : Bool) → is_named name entry ≡ b → not b ≡ true
+    passes true is = absurd (isnt_unheld db name (allowed 1 rule.Held (lit< tt)) old entry within stays (bytes_eq-true entry.name name is))
     passes false is = refl
 
 -- a held package that stands does so along a run
@@ -220,11 +220,11 @@ pub held_after_run : (start : List Record) (u : Universe) → IsBuiltOn start u 
 held_after_run start u built db finish [] old some run = subst (λ end. Any (StaysHeld old) end) (sym run) some
 held_after_run start u built db finish (taken ∷ rest) old some run = held_after_run start u built (after u db taken) finish rest old
     (Any-elim (StaysHeld old) db (Any (StaysHeld old) (after u db taken))
-    (λ found within stays. held_kept start u built db taken run.0 old found within stays) some) run.1
+    (λ entry within stays. held_kept start u built db taken run.0 old entry within stays) some) run.1
 
 -- a record that isn't unfinished and stands is installed; one that is installed stands
-pub finished_installed : (found : Record) → ¬ IsUnfinished found → Stands found → IsInstalled found
-finished_installed found finished is = at found.state found.flag (λ unfinished. finished unfinished) is
+pub finished_installed : (entry : Record) → ¬ IsUnfinished entry → Stands entry → IsInstalled entry
+finished_installed entry finished is = at entry.state entry.flag (λ unfinished. finished unfinished) is
   where
     at : (state : State) (flag : Flag)
         → ¬ IsTrue (is_unfinished_state state || (not (is_sound_flag flag) && not (is_not_installed_state state)))
@@ -238,8 +238,8 @@ finished_installed found finished is = at found.state found.flag (λ unfinished.
     at TriggersPending flag done stands = absurd (done refl)
     at Installed flag done stands = refl
 
-pub finished_stands : (found : Record) → ¬ IsUnfinished found → IsInstalled found → Stands found
-finished_stands found finished is = at found.state found.flag (λ unfinished. finished unfinished) is
+pub finished_stands : (entry : Record) → ¬ IsUnfinished entry → IsInstalled entry → Stands entry
+finished_stands entry finished is = at entry.state entry.flag (λ unfinished. finished unfinished) is
   where
     sound : (flag : Flag) → (b : Bool) → is_sound_flag flag ≡ b → ¬ IsTrue (not (is_sound_flag flag) && true) → IsTrue (is_sound_flag flag)
     sound flag true same done = same

@@ -50,25 +50,25 @@ foo_unfinished = record {
   least = least;
 }
   where
-    later : (name : List ℕ) (found : Record) → (record_of Unpacked None foo_1 ≡ found) ⊎ Contains [] found → found.name ≡ name
+    later : (name : List ℕ) (entry : Record) → (record_of Unpacked None foo_1 ≡ entry) ⊎ Contains [] entry → entry.name ≡ name
         → reason_cmp (reason.Unfinished name) (reason.Unfinished (codes "foo")) ≡ Less → ⊥
-    later name found (inl same) named is = absurd (let e : Equal ≡ Less = subst P (sym named ∙ ap (λ (r : Record). r.name) (sym same)) is in cc)
+    later name entry (inl same) named is = absurd (let e : Equal ≡ Less = subst P (sym named ∙ ap (λ (r : Record). r.name) (sym same)) is in cc)
       where
         P : List ℕ → Type 0
         P n = reason_cmp (reason.Unfinished n) (reason.Unfinished (codes "foo")) ≡ Less
-    later name found (inr none) named is = Contains-nil found none
+    later name entry (inr none) named is = Contains-nil entry none
 
-    unfinished : (name : List ℕ) (found : Record) → (record_of Installed (Some (codes "1.0")) bar_1 ≡ found) ⊎ Contains (record_of Unpacked None foo_1 ∷ []) found
-        → found.name ≡ name → IsUnfinished found → reason_cmp (reason.Unfinished name) (reason.Unfinished (codes "foo")) ≡ Less → ⊥
-    unfinished name found (inl same) named open_ is = absurd (let P : Record → Type 0 = λ r. IsUnfinished r in
+    unfinished : (name : List ℕ) (entry : Record) → (record_of Installed (Some (codes "1.0")) bar_1 ≡ entry) ⊎ Contains (record_of Unpacked None foo_1 ∷ []) entry
+        → entry.name ≡ name → IsUnfinished entry → reason_cmp (reason.Unfinished name) (reason.Unfinished (codes "foo")) ≡ Less → ⊥
+    unfinished name entry (inl same) named open_ is = absurd (let P : Record → Type 0 = λ r. IsUnfinished r in
         let e : false ≡ true = subst P (sym same) open_ in cc)
-    unfinished name found (inr there) named open_ is =
-        later name found (Contains-cons (record_of Unpacked None foo_1) [] found there) named is
+    unfinished name entry (inr there) named open_ is =
+        later name entry (Contains-cons (record_of Unpacked None foo_1) [] entry there) named is
 
     least : (other : Reason) → IsAgainst u left_unpacked other → ¬ (reason_cmp other (reason.Unfinished (codes "foo")) ≡ Less)
-    least (reason.Unfinished name) against is = Any-elim (λ found. (found.name ≡ name) × IsUnfinished found) left_unpacked ⊥
-        (λ found within both. unfinished name found
-        (Contains-cons (record_of Installed (Some (codes "1.0")) bar_1) (record_of Unpacked None foo_1 ∷ []) found within) both.0 both.1 is) against
+    least (reason.Unfinished name) against is = Any-elim (λ entry. (entry.name ≡ name) × IsUnfinished entry) left_unpacked ⊥
+        (λ entry within both. unfinished name entry
+        (Contains-cons (record_of Installed (Some (codes "1.0")) bar_1) (record_of Unpacked None foo_1 ∷ []) entry within) both.0 both.1 is) against
     least (reason.Relation name) against is = absurd (let e : Greater ≡ Less = is in cc)
     least (reason.Essential name) against is = absurd (let e : Greater ≡ Less = is in cc)
     least (reason.Goal number) against is = absurd (let e : Greater ≡ Less = is in cc)

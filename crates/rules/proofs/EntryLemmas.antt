@@ -10,30 +10,30 @@ use Rattle.rules.specs.declared.step.Step.TheVariants as step
 
 -- where a change of entries is that of their records
 records_changed : (test : Record → Bool) (change : Record → Record) (written : FileRecord → FileRecord)
-    → ((entry : FileRecord) → (written entry).found ≡ change entry.found) → (entries : List FileRecord)
+    → ((entry : FileRecord) → (written entry).status ≡ change entry.status) → (entries : List FileRecord)
     → records_of (changed_entries test written entries) ≡ changed test change (records_of entries)
 records_changed test change written agrees [] = refl
 records_changed test change written agrees (entry ∷ rest) =
-    at (test entry.found) (records_changed test change written agrees rest)
+    at (test entry.status) (records_changed test change written agrees rest)
   where
     at : (b : Bool) → records_of (changed_entries test written rest) ≡ changed test change (records_of rest)
-        → (cond b (written entry) entry).found ∷ records_of (changed_entries test written rest)
-        ≡ cond b (change entry.found) entry.found ∷ changed test change (records_of rest)
+        → (cond b (written entry) entry).status ∷ records_of (changed_entries test written rest)
+        ≡ cond b (change entry.status) entry.status ∷ changed test change (records_of rest)
     at true later = rw (agrees entry, later) refl
     at false later = rw later refl
 
 records_filtered : (test : Record → Bool) (entries : List FileRecord)
-    → records_of (filter (λ entry. test entry.found) entries) ≡ filter test (records_of entries)
+    → records_of (filter (λ entry. test entry.status) entries) ≡ filter test (records_of entries)
 records_filtered test [] = refl
-records_filtered test (entry ∷ rest) = at (test entry.found) (records_filtered test rest)
+records_filtered test (entry ∷ rest) = at (test entry.status) (records_filtered test rest)
   where
-    at : (b : Bool) → records_of (filter (λ e. test e.found) rest) ≡ filter test (records_of rest)
-        → records_of (cond b (entry ∷ filter (λ e. test e.found) rest) (filter (λ e. test e.found) rest))
-        ≡ cond b (entry.found ∷ filter test (records_of rest)) (filter test (records_of rest))
+    at : (b : Bool) → records_of (filter (λ e. test e.status) rest) ≡ filter test (records_of rest)
+        → records_of (cond b (entry ∷ filter (λ e. test e.status) rest) (filter (λ e. test e.status) rest))
+        ≡ cond b (entry.status ∷ filter test (records_of rest)) (filter test (records_of rest))
     at true later = rw later refl
     at false later = later
 
-records_appended : (entries : List FileRecord) (entry : FileRecord) → records_of (entries ++ entry ∷ []) ≡ records_of entries ++ entry.found ∷ []
+records_appended : (entries : List FileRecord) (entry : FileRecord) → records_of (entries ++ entry ∷ []) ≡ records_of entries ++ entry.status ∷ []
 records_appended [] entry = refl
 records_appended (first ∷ rest) entry = rw (records_appended rest entry) refl
 
@@ -56,4 +56,4 @@ written_as_left indexed (step.Configure names) entries =
     records_changed (is_among names) configured (touched_entry configured) (λ entry. refl) entries
 written_as_left indexed (step.Remove name) entries =
     records_changed (is_named name) removed (touched_entry removed) (λ entry. refl) entries
-written_as_left indexed (step.Purge name) entries = records_filtered (λ found. not (is_named name found)) entries
+written_as_left indexed (step.Purge name) entries = records_filtered (λ entry. not (is_named name entry)) entries

@@ -132,7 +132,7 @@ dec_MemberPasses db group name = dec_like
     (λ passes. ((passes.configurable, passes.pre_depends), (passes.depends, passes.unbroken)))
     (dec_and
     (dec_and
-    (dec_HasRecord IsConfigurable (λ found. dec_and (dec_IsTrue (is_unconfigured_state found.state)) (dec_IsTrue (is_sound_flag found.flag))) name db)
+    (dec_HasRecord IsConfigurable (λ entry. dec_and (dec_IsTrue (is_unconfigured_state entry.state)) (dec_IsTrue (is_sound_flag entry.flag))) name db)
     (dec_named (λ member. MeetsClauses (installed_of db) member.relations.pre_depends)
     (λ member. dec_MeetsClauses (installed_of db) member.relations.pre_depends) name db))
     (dec_and
@@ -209,11 +209,11 @@ greatest_upto (suc most) db names short =
 
     without : (name : List ℕ) → Contains names name → ¬ MemberPasses db names name
         → (part : List (List ℕ)) → IsGreatestPart db (others_of name names) part → IsGreatestPart db names part
-    without name within fails part found = record {
+    without name within fails part greatest = record {
       within = All-weaker (Contains (others_of name names)) (Contains names)
-          (λ other there. (others_of-contains name names other there).0) part found.within;
-      passes = found.passes;
-      greatest = λ other inside passes. found.greatest other
+          (λ other there. (others_of-contains name names other there).0) part greatest.within;
+      passes = greatest.passes;
+      greatest = λ other inside passes. greatest.greatest other
           (All-intro (Contains (others_of name names)) other (λ n there. contains-others_of name names n
           (All-contains (Contains names) other n inside there)
           (λ same. fails_in_part db names other inside passes name fails (subst (Contains other) same there)))) passes;
@@ -232,8 +232,8 @@ greatest_upto (suc most) db names short =
     )
     at (inr some) go_on =
         let within = Any-contains (λ name. ¬ MemberPasses db names name) names some in
-        let found = go_on (others_of some.1 names) (fewer_names some.1 within) in
-        (found.0, without some.1 within some.4 found.0 found.1)
+        let greatest = go_on (others_of some.1 names) (fewer_names some.1 within) in
+        (greatest.0, without some.1 within some.4 greatest.0 greatest.1)
 
 -- each group has a greatest part that passes
 unfoldable pub greatest_part : (db : List Record) (names : List (List ℕ)) → (part : List (List ℕ)) × IsGreatestPart db names part
@@ -252,17 +252,17 @@ others_empty db names indivisible = All-intro _ names each
   where
     proper : (name : List ℕ) → Contains names name → (part : List (List ℕ)) → IsGreatestPart db (others_of name names) part
         → (first : List ℕ) → Contains part first → IsProperPart part names
-    proper name within part found first there = record {
+    proper name within part greatest first there = record {
       some = let h = there.1 in omega arith;
       within = All-weaker (Contains (others_of name names)) (Contains names)
-          (λ other inside. (others_of-contains name names other inside).0) part found.within;
+          (λ other inside. (others_of-contains name names other inside).0) part greatest.within;
       proper = Any-intro (λ n. ¬ Contains part n) names name within
-          (λ inside. (others_of-contains name names name (All-contains (Contains (others_of name names)) part name found.within inside)).1 refl);
+          (λ inside. (others_of-contains name names name (All-contains (Contains (others_of name names)) part name greatest.within inside)).1 refl);
     }
 
     each : (name : List ℕ) → Contains names name → (part : List (List ℕ)) → IsGreatestPart db (others_of name names) part → part ≡ []
-    each name within part found = empty_from_none part
-        (λ first there. indivisible part (proper name within part found first there) found.passes)
+    each name within part greatest = empty_from_none part
+        (λ first there. indivisible part (proper name within part greatest first there) greatest.passes)
 
 -- a list with an element isn't within the empty list
 pub none_of : (part : List (List ℕ)) → 0 < length part → All (Contains []) part → ⊥
@@ -278,14 +278,14 @@ indivisible_from_others db names empty part proper passes =
   where
     missing : (name : List ℕ) → Contains names name → ¬ Contains part name → ⊥
     missing name within outside =
-        let found = greatest_part db (others_of name names) in
-        let nothing : found.0 ≡ [] = All-contains (λ n. (other : List (List ℕ)) → IsGreatestPart db (others_of n names) other → other ≡ [])
-        names name empty within found.0 found.1 in
+        let greatest = greatest_part db (others_of name names) in
+        let nothing : greatest.0 ≡ [] = All-contains (λ n. (other : List (List ℕ)) → IsGreatestPart db (others_of n names) other → other ≡ [])
+        names name empty within greatest.0 greatest.1 in
         let inside : All (Contains (others_of name names)) part = All-intro (Contains (others_of name names)) part
         (λ n there. contains-others_of name names n (All-contains (Contains names) part n proper.within there)
         (λ same. outside (subst (Contains part) same there))) in
         none_of part proper.some (let P : List (List ℕ) → Type 0 = λ other. All (Contains other) part in
-        subst P nothing (found.1.greatest part inside passes))
+        subst P nothing (greatest.1.greatest part inside passes))
 
 -- whether a group is indivisible is decided
 unfoldable pub dec_IsIndivisible : (db : List Record) (names : List (List ℕ)) → Dec (IsIndivisible db names)
@@ -297,9 +297,9 @@ dec_IsIndivisible db names = dec_like (indivisible_from_others db names) (others
       where
         at : (part : List (List ℕ)) × IsGreatestPart db (others_of name names) part
             → Dec ((part : List (List ℕ)) → IsGreatestPart db (others_of name names) part → part ≡ [])
-        at ([], found) = yes (λ part other. empty_from_none part (λ n there.
-            Contains-nil n (All-contains (Contains []) part n (found.greatest part other.within other.passes) there)))
-        at (first ∷ rest, found) = no (λ empty. absurd (let e : first ∷ rest ≡ [] = empty (first ∷ rest) found in cc))
+        at ([], greatest) = yes (λ part other. empty_from_none part (λ n there.
+            Contains-nil n (All-contains (Contains []) part n (greatest.greatest part other.within other.passes) there)))
+        at (first ∷ rest, greatest) = no (λ empty. absurd (let e : first ∷ rest ≡ [] = empty (first ∷ rest) greatest in cc))
 
 pub indivisible_by_others : (db : List Record) (names : List (List ℕ)) → IsIndivisible db names
     ↔ All (λ name. (part : List (List ℕ)) → IsGreatestPart db (others_of name names) part → part ≡ []) names

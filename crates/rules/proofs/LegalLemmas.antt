@@ -36,19 +36,19 @@ dec_ConfigureAsks db names rule.Group = dec_IsIndivisible db names
 dec_ConfigureAsks db names other = yes tt
 
 unfoldable pub dec_RemoveAsks : (db : List Record) (name : List ℕ) (asked : Rule) → Dec (RemoveAsks db name asked)
-dec_RemoveAsks db name rule.WrongState = dec_HasRecord (λ found. IsPresent found × HasSoundFlag found)
-    (λ found. dec_and (dec_IsTrue (is_present_state found.state)) (dec_IsTrue (is_sound_flag found.flag))) name db
+dec_RemoveAsks db name rule.WrongState = dec_HasRecord (λ entry. IsPresent entry × HasSoundFlag entry)
+    (λ entry. dec_and (dec_IsTrue (is_present_state entry.state)) (dec_IsTrue (is_sound_flag entry.flag))) name db
 dec_RemoveAsks db name rule.Held = dec_IsNotHeld db name
-dec_RemoveAsks db name rule.Essential = dec_not (dec_HasRecord IsEssential (λ found. dec_IsTrue found.is_essential) name db)
+dec_RemoveAsks db name rule.Essential = dec_not (dec_HasRecord IsEssential (λ entry. dec_IsTrue entry.is_essential) name db)
 dec_RemoveAsks db name rule.NeededBy = dec_IsNotNeeded db name
 dec_RemoveAsks db name other = yes tt
 
 unfoldable pub dec_DeconfigureAsks : (db : List Record) (name : List ℕ) (asked : Rule) → Dec (DeconfigureAsks db name asked)
-dec_DeconfigureAsks db name rule.WrongState = dec_HasRecord IsInstalled (λ found. dec_IsTrue (is_installed_state found.state)) name db
+dec_DeconfigureAsks db name rule.WrongState = dec_HasRecord IsInstalled (λ entry. dec_IsTrue (is_installed_state entry.state)) name db
 dec_DeconfigureAsks db name other = yes tt
 
 unfoldable pub dec_PurgeAsks : (db : List Record) (name : List ℕ) (asked : Rule) → Dec (PurgeAsks db name asked)
-dec_PurgeAsks db name rule.WrongState = dec_HasRecord IsRemoved (λ found. dec_IsTrue (is_config_files_state found.state)) name db
+dec_PurgeAsks db name rule.WrongState = dec_HasRecord IsRemoved (λ entry. dec_IsTrue (is_config_files_state entry.state)) name db
 dec_PurgeAsks db name rule.Held = dec_IsNotHeld db name
 dec_PurgeAsks db name other = yes tt
 
@@ -70,18 +70,18 @@ kept_or_first P each (first ∷ rest) = at (each first) (kept_or_first P each re
         → All P (first ∷ rest) ⊎ ((unkept : Rule) × IsFirstUnkept P (first ∷ rest) unkept)
     at (no fails) later = inr (first, inl (refl, fails))
     at (yes here) (inl all) = inl (All-cons P first rest here all)
-    at (yes here) (inr found) = inr (found.0, inr (here, found.1))
+    at (yes here) (inr unkept) = inr (unkept.0, inr (here, unkept.1))
 
 -- where all are kept, none is the first that isn't
 none_unkept : (P : Rule → Type 0) (asked : List Rule) (unkept : Rule) → All P asked → IsFirstUnkept P asked unkept → ⊥
-none_unkept P [] unkept all found = found
+none_unkept P [] unkept all is_first = is_first
 none_unkept P (first ∷ rest) unkept all (inl here) = here.1 (All-head P first rest all)
 none_unkept P (first ∷ rest) unkept all (inr later) = none_unkept P rest unkept (All-tail P first rest all) later.1
 
 -- two that are the first are one
 one_unkept : (P : Rule → Type 0) (asked : List Rule) (first second : Rule) → IsFirstUnkept P asked first
     → IsFirstUnkept P asked second → first ≡ second
-one_unkept P [] first second found other = absurd found
+one_unkept P [] first second is_first other = absurd is_first
 one_unkept P (topmost ∷ rest) first second (inl here) (inl there) = here.0 ∙ sym there.0
 one_unkept P (topmost ∷ rest) first second (inl here) (inr later) = absurd (here.1 later.0)
 one_unkept P (topmost ∷ rest) first second (inr later) (inl there) = absurd (there.1 later.0)
@@ -95,16 +95,16 @@ allowed_or_failing u db taken = kept_or_first (Asks u db taken) (dec_Asks u db t
 pub allowed_fails_none : (u : Universe) (db : List Record) (taken : Step) (failing : Rule) → Allowed u db taken
     → ¬ IsFirstFailing u db taken failing
 unfolding Allowed IsFirstFailing
-allowed_fails_none u db taken failing allowed found = none_unkept (Asks u db taken) (rules_of taken) failing allowed found
+allowed_fails_none u db taken failing allowed is_first = none_unkept (Asks u db taken) (rules_of taken) failing allowed is_first
 
 pub one_first_failing : (u : Universe) (db : List Record) (taken : Step) (first second : Rule)
     → IsFirstFailing u db taken first → IsFirstFailing u db taken second → first ≡ second
 unfolding IsFirstFailing
-one_first_failing u db taken first second found other = one_unkept (Asks u db taken) (rules_of taken) first second found other
+one_first_failing u db taken first second is_first other = one_unkept (Asks u db taken) (rules_of taken) first second is_first other
 
 pub allowed_where_none_fails : (u : Universe) (db : List Record) (taken : Step)
     → Allowed u db taken ↔ ((failing : Rule) → ¬ IsFirstFailing u db taken failing)
 allowed_where_none_fails u db taken = (
   λ allowed failing. allowed_fails_none u db taken failing allowed,
-  λ none. elim (allowed_or_failing u db taken) [ inl allowed ↦ allowed | inr found ↦ absurd (none found.0 found.1) ],
+  λ none. elim (allowed_or_failing u db taken) [ inl allowed ↦ allowed | inr failing ↦ absurd (none failing.0 failing.1) ],
 )

@@ -75,7 +75,7 @@ one_stopping u start steps number other rule rule' stop stop' =
 tied : {X : Type 0} (R : X → X → Ordering) → IsTotalOrder R → (x y : X) → ¬ (R x y ≡ Less) → ¬ (R y x ≡ Less) → R x y ≡ Equal
 tied R o x y not_before not_after = at (R x y) refl
   where
-    at : (found : Ordering) → R x y ≡ found → R x y ≡ Equal
+    at : (order : Ordering) → R x y ≡ order → R x y ≡ Equal
     at Less is = absurd (not_before is)
     at Equal is = is
     at Greater is = absurd (not_after (o.antisymm y x ∙ ap ordering_reverse is))
@@ -94,7 +94,7 @@ one_number number other not_before not_after =
     (Decides-eqb number other).0 (sym (unsigned_tied number other) ∙ ap is_eq same)
 
 -- reasons of which neither is before the other are one
-one_reason : (found other : Reason) → ¬ (reason_cmp found other ≡ Less) → ¬ (reason_cmp other found ≡ Less) → found ≡ other
+one_reason : (reason other : Reason) → ¬ (reason_cmp reason other ≡ Less) → ¬ (reason_cmp other reason ≡ Less) → reason ≡ other
 one_reason (reason.Unfinished name) (reason.Unfinished other) not_before not_after =
     ap reason.Unfinished (one_name name other not_before not_after)
 one_reason (reason.Unfinished name) (reason.Relation other) not_before not_after = absurd (not_before refl)
@@ -117,25 +117,25 @@ one_reason (reason.Goal number) (reason.Goal other) not_before not_after =
     ap reason.Goal (one_number number other not_before not_after)
 
 -- an end has one first reason against it
-one_first_against : (u : Universe) (db : List Record) (found other : Reason) → IsFirstAgainst u db found → IsFirstAgainst u db other
-    → found ≡ other
-one_first_against u db found other first first' =
-    one_reason found other (first'.least found first.against) (first.least other first'.against)
+one_first_against : (u : Universe) (db : List Record) (reason other : Reason) → IsFirstAgainst u db reason → IsFirstAgainst u db other
+    → reason ≡ other
+one_first_against u db reason other first first' =
+    one_reason reason other (first'.least reason first.against) (first.least other first'.against)
 
 pub one_verdict : OneVerdict
 one_verdict u start steps first verdict.Yes is is' = good_plan_has_yes u start steps first is' is
 one_verdict u start steps verdict.Yes second is is' = sym (good_plan_has_yes u start steps second is is')
 one_verdict u start steps verdict.Start verdict.Start is is' = refl
 one_verdict u start steps verdict.Start (verdict.Step number rule) is is' = absurd (is is'.0)
-one_verdict u start steps verdict.Start (verdict.End found) is is' = absurd (is is'.0)
+one_verdict u start steps verdict.Start (verdict.End reason) is is' = absurd (is is'.0)
 one_verdict u start steps (verdict.Step number rule) verdict.Start is is' = absurd (is' is.0)
-one_verdict u start steps (verdict.End found) verdict.Start is is' = absurd (is' is.0)
+one_verdict u start steps (verdict.End reason) verdict.Start is is' = absurd (is' is.0)
 one_verdict u start steps (verdict.Step number rule) (verdict.Step other rule') is is' =
     one_stopping u start steps number other rule rule' is.1 is'.1
-one_verdict u start steps (verdict.Step number rule) (verdict.End found) is is' =
+one_verdict u start steps (verdict.Step number rule) (verdict.End reason) is is' =
     absurd (stops_no_run u start is'.1.0 steps number rule is.1 is'.1.1)
-one_verdict u start steps (verdict.End found) (verdict.Step number rule) is is' =
+one_verdict u start steps (verdict.End reason) (verdict.Step number rule) is is' =
     absurd (stops_no_run u start is.1.0 steps number rule is'.1 is.1.1)
-one_verdict u start steps (verdict.End found) (verdict.End other) is is' =
-    ap verdict.End (one_first_against u is'.1.0 found other
-    (subst (λ (db : List Record). IsFirstAgainst u db found) (one_end u start is.1.0 is'.1.0 steps is.1.1 is'.1.1) is.1.2) is'.1.2)
+one_verdict u start steps (verdict.End reason) (verdict.End other) is is' =
+    ap verdict.End (one_first_against u is'.1.0 reason other
+    (subst (λ (db : List Record). IsFirstAgainst u db reason) (one_end u start is.1.0 is'.1.0 steps is.1.1 is'.1.1) is.1.2) is'.1.2)

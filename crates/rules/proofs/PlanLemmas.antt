@@ -17,29 +17,29 @@ use Rattle.rules.proofs.QuietLemmas.{quiet_after_run}
 use Rattle.rules.proofs.RunLemmas.{Run-parts, one_end}
 
 -- an installed record's package is among the installed ones
-pub installed_contains : (db : List Record) (found : Record) → Contains db found → IsInstalled found
-    → Contains (installed_of db) (pkg_of found)
-installed_contains db found within is = Contains-map_intro pkg_of (filter (λ r. is_installed_state r.state) db) found
-    (Contains-filter_intro (λ r. is_installed_state r.state) db found within is)
+pub installed_contains : (db : List Record) (entry : Record) → Contains db entry → IsInstalled entry
+    → Contains (installed_of db) (pkg_of entry)
+installed_contains db entry within is = Contains-map_intro pkg_of (filter (λ r. is_installed_state r.state) db) entry
+    (Contains-filter_intro (λ r. is_installed_state r.state) db entry within is)
 
 -- what no other member matches, no other installed record matches
-no_other : (db : List Record) (found : Record) (atoms : List Atom) → MatchedByNoOther (installed_of db) found.name atoms
-    → (other : Record) → Contains db other → IsInstalled other → other.name ≢ found.name → ¬ MatchesSome (pkg_of other) atoms
+no_other : (db : List Record) (entry : Record) (atoms : List Atom) → MatchedByNoOther (installed_of db) entry.name atoms
+    → (other : Record) → Contains db other → IsInstalled other → other.name ≢ entry.name → ¬ MatchesSome (pkg_of other) atoms
 unfolding MatchedByNoOther
-no_other db found atoms none other within is differ = All-contains (λ (member : Pkg). member.name ≢ found.name → ¬ MatchesSome member atoms)
+no_other db entry atoms none other within is differ = All-contains (λ (member : Pkg). member.name ≢ entry.name → ¬ MatchesSome member atoms)
     (installed_of db) (pkg_of other) none (installed_contains db other within is) differ
 
-satisfied_in : (db : List Record) → IsSound (installed_of db) → (found : Record) → Contains db found → IsInstalled found
-    → IsSatisfiedIn db found
+satisfied_in : (db : List Record) → IsSound (installed_of db) → (entry : Record) → Contains db entry → IsInstalled entry
+    → IsSatisfiedIn db entry
 unfolding IsSound ConflictsWith BreaksOther
-satisfied_in db sound found within is =
-    let content : HasItsRelations (installed_of db) (pkg_of found) =
-    All-contains (HasItsRelations (installed_of db)) (installed_of db) (pkg_of found) sound (installed_contains db found within is) in
+satisfied_in db sound entry within is =
+    let content : HasItsRelations (installed_of db) (pkg_of entry) =
+    All-contains (HasItsRelations (installed_of db)) (installed_of db) (pkg_of entry) sound (installed_contains db entry within is) in
     record {
       pre_depends = content.pre_depends;
       depends = content.depends;
-      conflicts = no_other db found found.relations.conflicts content.conflicts;
-      breaks = no_other db found found.relations.breaks content.breaks;
+      conflicts = no_other db entry entry.relations.conflicts content.conflicts;
+      breaks = no_other db entry entry.relations.breaks content.breaks;
     }
 
 -- a hold that is kept
@@ -49,10 +49,10 @@ unfolding KeepsHold HoldsOn
 held_version u members keeps name version holds = Any-elim
     (λ (start : Start). (start.name ≡ name) × IsTrue start.is_held × (start.standing ≡ Some version)) u.starts
     (HasVersion name version members)
-    (λ (start : Start) within found.
+    (λ (start : Start) within facts.
     let P : Option (List ℕ) → Type 0 = λ standing. MatchOption standing (Unit {0}) (λ v. HasVersion start.name v members) in
-    let there = subst P found.2 (All-contains (KeepsHold members) u.starts start keeps within found.1) in
-    let Q : List ℕ → Type 0 = λ n. HasVersion n version members in subst Q found.0 there) holds
+    let there = subst P facts.2 (All-contains (KeepsHold members) u.starts start keeps within facts.1) in
+    let Q : List ℕ → Type 0 = λ n. HasVersion n version members in subst Q facts.0 there) holds
 
 essential_member : (u : Universe) (members : List Pkg) → All (KeepsEssential members) u.starts → (name : List ℕ)
     → IsEssentialIn u name → HasMember name members
@@ -60,9 +60,9 @@ unfolding KeepsEssential IsEssentialIn
 essential_member u members keeps name essential = Any-elim
     (λ (start : Start). (start.name ≡ name) × IsTrue start.is_essential × IsTrue start.is_present) u.starts
     (HasMember name members)
-    (λ (start : Start) within found.
+    (λ (start : Start) within facts.
     let Q : List ℕ → Type 0 = λ n. HasMember n members in
-    subst Q found.0 (All-contains (KeepsEssential members) u.starts start keeps within found.1 found.2)) essential
+    subst Q facts.0 (All-contains (KeepsEssential members) u.starts start keeps within facts.1 facts.2)) essential
 
 as_asked : (u : Universe) (db : List Record) → IsGoodEnd u db → IsAsAsked u db
 unfolding FulfilsAll
@@ -73,7 +73,7 @@ as_asked u db good = record {
   held = held_version u (installed_of db) good.fitting.held;
   essential = essential_member u (installed_of db) good.fitting.essential;
   satisfied = satisfied_in db good.fitting.sound;
-  finished = λ found within. All-contains (λ r. ¬ IsUnfinished r) db found good.finished within;
+  finished = λ entry within. All-contains (λ r. ¬ IsUnfinished r) db entry good.finished within;
 }
 
 -- the part of a run before a place

@@ -7,7 +7,7 @@ use Rattle.std.proofs.lemmas.List.Quantifiers.{all_pairs_push}
 use Rattle.std.proofs.lemmas.List.Elements.{All-contains, Contains-get_or, Contains-append_cases, All-filter}
 use Rattle.std.proofs.Math.ListN.{length-map}
 use Rattle.rules.specs.Configure.{HasConfigurable, IsConfigurable, AreConfigurable}
-use Rattle.rules.specs.Database.{IsInstalled, Record, HasRecord, HasDistinctNames, IsAtPeaceWith, IsQuiet, IsPresent, HasSoundFlag, pkg_of}
+use Rattle.rules.specs.Database.{IsInstalled, Record, HasRecord, HasDistinctNames, HasNoConflictWith, IsQuiet, IsPresent, HasSoundFlag, pkg_of}
 use Rattle.rules.specs.Legal.{Allowed}
 use Rattle.rules.specs.LegalLaws.{ActsOnPresent, AllowedActsOnPresent}
 use Rattle.rules.specs.Package.{Pkg, ConflictsWith}
@@ -26,7 +26,7 @@ use Rattle.rules.specs.ElementLaws.{All-intro, Any-elim, Contains-cons, Contains
 use mathlib.Core.Logic.{inl, inr}
 
 -- a change that keeps each name keeps names distinct
-distinct_map : (change : Record → Record) → ((found : Record) → (change found).name ≡ found.name) → (db : List Record)
+distinct_map : (change : Record → Record) → ((entry : Record) → (change entry).name ≡ entry.name) → (db : List Record)
     → HasDistinctNames db → HasDistinctNames (map change db)
 unfolding HasDistinctNames
 distinct_map change keeps db distinct i j d before within same =
@@ -61,25 +61,25 @@ AllPairs-filter {X} R p (x ∷ xs) pairs = at (p x) (AllPairs-filter R p xs (All
 
 -- a change of the records that a test names keeps names, if the change does
 changed_name : (test : Record → Bool) (change : Record → Record)
-    → ((found : Record) → test found ≡ true → (change found).name ≡ found.name)
-    → (found : Record) → (cond (test found) (change found) found).name ≡ found.name
-changed_name test change keeps found = at (test found) refl
+    → ((entry : Record) → test entry ≡ true → (change entry).name ≡ entry.name)
+    → (entry : Record) → (cond (test entry) (change entry) entry).name ≡ entry.name
+changed_name test change keeps entry = at (test entry) refl
   where
-    at : (b : Bool) → test found ≡ b → (cond b (change found) found).name ≡ found.name
-    at true is = keeps found is
+    at : (b : Bool) → test entry ≡ b → (cond b (change entry) entry).name ≡ entry.name
+    at true is = keeps entry is
     at false is = refl
 
 distinct_changed : (test : Record → Bool) (change : Record → Record)
-    → ((found : Record) → test found ≡ true → (change found).name ≡ found.name) → (db : List Record)
+    → ((entry : Record) → test entry ≡ true → (change entry).name ≡ entry.name) → (db : List Record)
     → HasDistinctNames db → HasDistinctNames (changed test change db)
 distinct_changed test change keeps db distinct =
-    distinct_map (λ found. cond (test found) (change found) found) (changed_name test change keeps) db distinct
+    distinct_map (λ entry. cond (test entry) (change entry) entry) (changed_name test change keeps) db distinct
 
 -- where the test names no record, none has the name
-pub unnamed : (name : List ℕ) (db : List Record) → list_any (is_named name) db ≡ false → (found : Record) → Contains db found
-    → found.name ≢ name
-unnamed name db none found within same = absurd (let e : true ≡ false =
-    sym (list_any-from_contains (is_named name) db found within (bytes_eq-same found.name name same)) ∙ none in cc)
+pub unnamed : (name : List ℕ) (db : List Record) → list_any (is_named name) db ≡ false → (entry : Record) → Contains db entry
+    → entry.name ≢ name
+unnamed name db none entry within same = absurd (let e : true ≡ false =
+    sym (list_any-from_contains (is_named name) db entry within (bytes_eq-same entry.name name same)) ∙ none in cc)
 
 distinct_unpack : (listed : IndexPackage) (db : List Record) → HasDistinctNames db → HasDistinctNames (after_unpack listed db)
 unfolding HasDistinctNames
@@ -88,7 +88,7 @@ distinct_unpack listed db distinct = at (list_any (is_named listed.pkg.name) db)
     at : (b : Bool) → list_any (is_named listed.pkg.name) db ≡ b
         → HasDistinctNames (cond b (changed (is_named listed.pkg.name) (unpacked_over listed) db) (db ++ unpacked_with listed None ∷ []))
     at true some = distinct_changed (is_named listed.pkg.name) (unpacked_over listed)
-        (λ found is. sym (bytes_eq-true found.name listed.pkg.name is)) db distinct
+        (λ entry is. sym (bytes_eq-true entry.name listed.pkg.name is)) db distinct
     at false none = all_pairs_push (λ (a b : Record). a.name ≢ b.name) db (unpacked_with listed None) distinct
         (λ k d within. unnamed listed.pkg.name db none (get_or db k d) (Contains-get_or db k d within))
 
@@ -99,81 +99,81 @@ distinct_filter p db distinct = AllPairs-filter (λ (a b : Record). a.name ≢ b
 pub distinct_names_kept : (listed : Option IndexPackage) (taken : Step) (db : List Record) → HasDistinctNames db
     → HasDistinctNames (result_of listed taken db)
 distinct_names_kept None (step.Unpack name version) db distinct = distinct
-distinct_names_kept (Some found) (step.Unpack name version) db distinct = distinct_unpack found db distinct
+distinct_names_kept (Some listed) (step.Unpack name version) db distinct = distinct_unpack listed db distinct
 distinct_names_kept listed (step.Deconfigure name) db distinct =
-    distinct_changed (is_named name) deconfigured (λ found is. refl) db distinct
+    distinct_changed (is_named name) deconfigured (λ entry is. refl) db distinct
 distinct_names_kept listed (step.Configure names) db distinct =
-    distinct_changed (is_among names) configured (λ found is. refl) db distinct
+    distinct_changed (is_among names) configured (λ entry is. refl) db distinct
 distinct_names_kept listed (step.Remove name) db distinct =
-    distinct_changed (is_named name) removed (λ found is. refl) db distinct
-distinct_names_kept listed (step.Purge name) db distinct = distinct_filter (λ found. not (is_named name found)) db distinct
+    distinct_changed (is_named name) removed (λ entry is. refl) db distinct
+distinct_names_kept listed (step.Purge name) db distinct = distinct_filter (λ entry. not (is_named name entry)) db distinct
 
 -- of two records with one name there is one
-pub one_record : (db : List Record) → HasDistinctNames db → (found other : Record) → Contains db found → Contains db other
-    → other.name ≡ found.name → other ≡ found
+pub one_record : (db : List Record) → HasDistinctNames db → (entry other : Record) → Contains db entry → Contains db other
+    → other.name ≡ entry.name → other ≡ entry
 unfolding HasDistinctNames
-one_record [] distinct found other within there same = absurd (Contains-nil found within)
-one_record (first ∷ rest) distinct found other within there same =
-    at (Contains-cons first rest found within) (Contains-cons first rest other there)
-    (λ later behind. one_record rest (AllPairs-tail (λ (a b : Record). a.name ≢ b.name) first rest distinct) found other later behind same)
+one_record [] distinct entry other within there same = absurd (Contains-nil entry within)
+one_record (first ∷ rest) distinct entry other within there same =
+    at (Contains-cons first rest entry within) (Contains-cons first rest other there)
+    (λ later behind. one_record rest (AllPairs-tail (λ (a b : Record). a.name ≢ b.name) first rest distinct) entry other later behind same)
   where
     alone : (record_ : Record) → Contains rest record_ → first.name ≢ record_.name
     alone r behind = All-contains (λ (b : Record). first.name ≢ b.name) rest r
         (AllPairs-head (λ (a b : Record). a.name ≢ b.name) first rest distinct) behind
 
-    at : (first ≡ found) ⊎ Contains rest found → (first ≡ other) ⊎ Contains rest other
-        → (Contains rest found → Contains rest other → other ≡ found) → other ≡ found
+    at : (first ≡ entry) ⊎ Contains rest entry → (first ≡ other) ⊎ Contains rest other
+        → (Contains rest entry → Contains rest other → other ≡ entry) → other ≡ entry
     at (inl here) (inl also) later = sym also ∙ here
     at (inl here) (inr behind) later = absurd (alone other behind (ap (λ (r : Record). r.name) here ∙ sym same))
-    at (inr behind) (inl also) later = absurd (alone found behind (ap (λ (r : Record). r.name) also ∙ same))
+    at (inr behind) (inl also) later = absurd (alone entry behind (ap (λ (r : Record). r.name) also ∙ same))
     at (inr behind) (inr further) later = later behind further
 
 -- what the record of a name has, each record of that name has
-pub the_record : (P : Record → Type 0) (db : List Record) → HasDistinctNames db → (found : Record) → Contains db found
-    → HasRecord P found.name db → P found
-the_record P db distinct found within has = Any-elim (λ (r : Record). (r.name ≡ found.name) × P r) db (P found)
-    (λ other there both. subst P (one_record db distinct found other within there both.0) both.1) has
+pub the_record : (P : Record → Type 0) (db : List Record) → HasDistinctNames db → (entry : Record) → Contains db entry
+    → HasRecord P entry.name db → P entry
+the_record P db distinct entry within has = Any-elim (λ (r : Record). (r.name ≡ entry.name) × P r) db (P entry)
+    (λ other there both. subst P (one_record db distinct entry other within there both.0) both.1) has
 
 -- a present record of the old database that is of the same package
-record Stems (old : List Record) (found : Record) : Type 0 where
+record Stems (old : List Record) (entry : Record) : Type 0 where
   pub from : Record
   pub within : Contains old from
   pub present : IsPresent from
-  pub same : pkg_of from ≡ pkg_of found
+  pub same : pkg_of from ≡ pkg_of entry
 
 -- two present records of a quiet database of two names don't conflict
-at_peace : (db : List Record) → IsQuiet db → (found other : Record) → Contains db found → Contains db other
-    → IsPresent found → IsPresent other → found.name ≢ other.name → ¬ ConflictsWith (pkg_of found) (pkg_of other)
-unfolding IsQuiet IsAtPeaceWith
-at_peace db quiet found other within there =
-    All-contains (IsAtPeaceWith found) db other (All-contains (λ r. All (IsAtPeaceWith r) db) db found quiet within) there
+no_conflict_between : (db : List Record) → IsQuiet db → (entry other : Record) → Contains db entry → Contains db other
+    → IsPresent entry → IsPresent other → entry.name ≢ other.name → ¬ ConflictsWith (pkg_of entry) (pkg_of other)
+unfolding IsQuiet HasNoConflictWith
+no_conflict_between db quiet entry other within there =
+    All-contains (HasNoConflictWith entry) db other (All-contains (λ r. All (HasNoConflictWith r) db) db entry quiet within) there
 
 -- a database is quiet where no two of its records conflict
-quiet_from : (db : List Record) → ((found other : Record) → Contains db found → Contains db other
-    → IsPresent found → IsPresent other → found.name ≢ other.name → ¬ ConflictsWith (pkg_of found) (pkg_of other)) → IsQuiet db
-unfolding IsQuiet IsAtPeaceWith
-quiet_from db each = All-intro (λ r. All (IsAtPeaceWith r) db) db (λ found within.
-    All-intro (IsAtPeaceWith found) db (λ other there. each found other within there))
+quiet_from : (db : List Record) → ((entry other : Record) → Contains db entry → Contains db other
+    → IsPresent entry → IsPresent other → entry.name ≢ other.name → ¬ ConflictsWith (pkg_of entry) (pkg_of other)) → IsQuiet db
+unfolding IsQuiet HasNoConflictWith
+quiet_from db each = All-intro (λ r. All (HasNoConflictWith r) db) db (λ entry within.
+    All-intro (HasNoConflictWith entry) db (λ other there. each entry other within there))
 
 -- a database whose present records all stem from a quiet one is quiet
-quiet_stems : (old db : List Record) → IsQuiet old → ((found : Record) → Contains db found → IsPresent found → Stems old found)
+quiet_stems : (old db : List Record) → IsQuiet old → ((entry : Record) → Contains db entry → IsPresent entry → Stems old entry)
     → IsQuiet db
 quiet_stems old db quiet stem = quiet_from db each
   where
-    each : (found other : Record) → Contains db found → Contains db other → IsPresent found → IsPresent other
-        → found.name ≢ other.name → ¬ ConflictsWith (pkg_of found) (pkg_of other)
-    each found other within there present also differ conflicts =
-        let first = stem found within present in
+    each : (entry other : Record) → Contains db entry → Contains db other → IsPresent entry → IsPresent other
+        → entry.name ≢ other.name → ¬ ConflictsWith (pkg_of entry) (pkg_of other)
+    each entry other within there present also differ conflicts =
+        let first = stem entry within present in
         let second = stem other there also in
-        at_peace old quiet first.from second.from first.within second.within first.present second.present
+        no_conflict_between old quiet first.from second.from first.within second.within first.present second.present
         (λ same. differ (ap (λ (pkg : Pkg). pkg.name) (sym first.same) ∙ same ∙ ap (λ (pkg : Pkg). pkg.name) second.same))
         (let P : Pkg → Type 0 = λ pkg. ConflictsWith pkg (pkg_of second.from) in subst P (sym first.same)
-        (let Q : Pkg → Type 0 = λ pkg. ConflictsWith (pkg_of found) pkg in subst Q (sym second.same) conflicts))
+        (let Q : Pkg → Type 0 = λ pkg. ConflictsWith (pkg_of entry) pkg in subst Q (sym second.same) conflicts))
 
 -- where a change keeps each record's package, and what it makes present was so, a quiet database stays quiet
 quiet_changed : (test : Record → Bool) (change : Record → Record) (db : List Record)
-    → ((found : Record) → Contains db found → test found ≡ true → IsPresent (change found)
-    → IsPresent found × (pkg_of found ≡ pkg_of (change found)))
+    → ((entry : Record) → Contains db entry → test entry ≡ true → IsPresent (change entry)
+    → IsPresent entry × (pkg_of entry ≡ pkg_of (change entry)))
     → IsQuiet db → IsQuiet (changed test change db)
 quiet_changed test change db keeps quiet = quiet_stems db (changed test change db) quiet stem
   where
@@ -183,9 +183,9 @@ quiet_changed test change db keeps quiet = quiet_stems db (changed test change d
         record { from = old; within = within; present = kept.0; same = kept.1 }
     at old within false is present = record { from = old; within = within; present = present; same = refl }
 
-    stem : (found : Record) → Contains (changed test change db) found → IsPresent found → Stems db found
-    stem found within present =
-        let old = Contains-map (λ r. cond (test r) (change r) r) db found within in
+    stem : (entry : Record) → Contains (changed test change db) entry → IsPresent entry → Stems db entry
+    stem entry within present =
+        let old = Contains-map (λ r. cond (test r) (change r) r) db entry within in
         subst (Stems db) old.2 (at old.0 old.1 (test old.0) refl (let P : Record → Type 0 = λ r. IsPresent r in subst P (sym old.2) present))
 
 -- an unconfigured package is present, and so is an installed one
@@ -211,40 +211,40 @@ installed_present Installed is = refl
 
 -- the name under which a record is found has a property, and so has the record
 pub the_named : (P : Record → Type 0) (db : List Record) → HasDistinctNames db → (name : List ℕ) → HasRecord P name db
-    → (found : Record) → Contains db found → is_named name found ≡ true → P found
-the_named P db distinct name has found within is = the_record P db distinct found within
-    (let Q : List ℕ → Type 0 = λ n. HasRecord P n db in subst Q (sym (bytes_eq-true found.name name is)) has)
+    → (entry : Record) → Contains db entry → is_named name entry ≡ true → P entry
+the_named P db distinct name has entry within is = the_record P db distinct entry within
+    (let Q : List ℕ → Type 0 = λ n. HasRecord P n db in subst Q (sym (bytes_eq-true entry.name name is)) has)
 
 quiet_deconfigure : (db : List Record) (name : List ℕ) → HasDistinctNames db → HasRecord IsInstalled name db → IsQuiet db
     → IsQuiet (changed (is_named name) deconfigured db)
-quiet_deconfigure db name distinct has = quiet_changed (is_named name) deconfigured db (λ found within is present.
-    (installed_present found.state (the_named IsInstalled db distinct name has found within is), refl))
+quiet_deconfigure db name distinct has = quiet_changed (is_named name) deconfigured db (λ entry within is present.
+    (installed_present entry.state (the_named IsInstalled db distinct name has entry within is), refl))
 
 quiet_configure : (db : List Record) (names : List (List ℕ)) → HasDistinctNames db → AreConfigurable db names → IsQuiet db
     → IsQuiet (changed (is_among names) configured db)
 unfolding AreConfigurable HasConfigurable
-quiet_configure db names distinct has = quiet_changed (is_among names) configured db (λ found within is present. (
-  unconfigured_present found.state (the_record IsConfigurable db distinct found within
-      (All-contains (λ name. HasRecord IsConfigurable name db) names found.name has (contains-is_among names found is))).0,
+quiet_configure db names distinct has = quiet_changed (is_among names) configured db (λ entry within is present. (
+  unconfigured_present entry.state (the_record IsConfigurable db distinct entry within
+      (All-contains (λ name. HasRecord IsConfigurable name db) names entry.name has (contains-is_among names entry is))).0,
   refl,
 ))
 
 quiet_remove : (db : List Record) (name : List ℕ) → IsQuiet db → IsQuiet (changed (is_named name) removed db)
 quiet_remove db name = quiet_changed (is_named name) removed db
-    (λ found within is present. absurd (let e : false ≡ true = present in cc))
+    (λ entry within is present. absurd (let e : false ≡ true = present in cc))
 
 quiet_filter : (p : Record → Bool) (db : List Record) → IsQuiet db → IsQuiet (filter p db)
-quiet_filter p db quiet = quiet_stems db (filter p db) quiet (λ found within present.
-    record { from = found; within = (Contains-filter p db found within).0; present = present; same = refl })
+quiet_filter p db quiet = quiet_stems db (filter p db) quiet (λ entry within present.
+    record { from = entry; within = (Contains-filter p db entry within).0; present = present; same = refl })
 
 -- after an unpacking each record is of the package unpacked or one of another name that was there
-after_unpack_parts : (listed : IndexPackage) (db : List Record) (found : Record) → Contains (after_unpack listed db) found
-    → (pkg_of found ≡ listed.pkg) ⊎ (Contains db found × (found.name ≢ listed.pkg.name))
-after_unpack_parts listed db found = at (list_any (is_named listed.pkg.name) db) refl
+after_unpack_parts : (listed : IndexPackage) (db : List Record) (entry : Record) → Contains (after_unpack listed db) entry
+    → (pkg_of entry ≡ listed.pkg) ⊎ (Contains db entry × (entry.name ≢ listed.pkg.name))
+after_unpack_parts listed db entry = at (list_any (is_named listed.pkg.name) db) refl
   where
     named : (old : Record) → Contains db old → (b : Bool) → is_named listed.pkg.name old ≡ b
-        → cond b (unpacked_over listed old) old ≡ found
-        → (pkg_of found ≡ listed.pkg) ⊎ (Contains db found × (found.name ≢ listed.pkg.name))
+        → cond b (unpacked_over listed old) old ≡ entry
+        → (pkg_of entry ≡ listed.pkg) ⊎ (Contains db entry × (entry.name ≢ listed.pkg.name))
     named old within true is same = inl (ap pkg_of (sym same))
     named old within false is same = inr (
       subst (Contains db) same within,
@@ -253,43 +253,43 @@ after_unpack_parts listed db found = at (list_any (is_named listed.pkg.name) db)
     )
 
     at : (b : Bool) → list_any (is_named listed.pkg.name) db ≡ b
-        → Contains (cond b (changed (is_named listed.pkg.name) (unpacked_over listed) db) (db ++ unpacked_with listed None ∷ [])) found
-        → (pkg_of found ≡ listed.pkg) ⊎ (Contains db found × (found.name ≢ listed.pkg.name))
+        → Contains (cond b (changed (is_named listed.pkg.name) (unpacked_over listed) db) (db ++ unpacked_with listed None ∷ [])) entry
+        → (pkg_of entry ≡ listed.pkg) ⊎ (Contains db entry × (entry.name ≢ listed.pkg.name))
     at true some within =
-        let old = Contains-map (λ r. cond (is_named listed.pkg.name r) (unpacked_over listed r) r) db found within in
+        let old = Contains-map (λ r. cond (is_named listed.pkg.name r) (unpacked_over listed r) r) db entry within in
         named old.0 old.1 (is_named listed.pkg.name old.0) refl old.2
-    at false none within = elim (Contains-append_cases db (unpacked_with listed None ∷ []) found within) [
-      | inl there ↦ inr (there, unnamed listed.pkg.name db none found there)
-      | inr last ↦ elim (Contains-cons (unpacked_with listed None) [] found last)
-          [ inl same ↦ inl (ap pkg_of (sym same)) | inr none ↦ absurd (Contains-nil found none) ]
+    at false none within = elim (Contains-append_cases db (unpacked_with listed None ∷ []) entry within) [
+      | inl there ↦ inr (there, unnamed listed.pkg.name db none entry there)
+      | inr last ↦ elim (Contains-cons (unpacked_with listed None) [] entry last)
+          [ inl same ↦ inl (ap pkg_of (sym same)) | inr none ↦ absurd (Contains-nil entry none) ]
     ]
 
 quiet_unpack : (listed : IndexPackage) (db : List Record) → HasNoConflict db listed.pkg → IsQuiet db → IsQuiet (after_unpack listed db)
 unfolding HasNoConflict IsCompatible
-quiet_unpack listed db apart quiet = quiet_from (after_unpack listed db) (λ found other within there.
-    each found other (after_unpack_parts listed db found within) (after_unpack_parts listed db other there))
+quiet_unpack listed db apart quiet = quiet_from (after_unpack listed db) (λ entry other within there.
+    each entry other (after_unpack_parts listed db entry within) (after_unpack_parts listed db other there))
   where
     compatible : (other : Record) → Contains db other → other.name ≢ listed.pkg.name → IsPresent other
         → (¬ ConflictsWith listed.pkg (pkg_of other)) × (¬ ConflictsWith (pkg_of other) listed.pkg)
     compatible other there = All-contains (λ (r : Record). r.name ≢ listed.pkg.name → IsCompatible listed.pkg r) db other apart there
 
-    each : (found other : Record) → (pkg_of found ≡ listed.pkg) ⊎ (Contains db found × (found.name ≢ listed.pkg.name))
+    each : (entry other : Record) → (pkg_of entry ≡ listed.pkg) ⊎ (Contains db entry × (entry.name ≢ listed.pkg.name))
         → (pkg_of other ≡ listed.pkg) ⊎ (Contains db other × (other.name ≢ listed.pkg.name))
-        → IsPresent found → IsPresent other → found.name ≢ other.name → ¬ ConflictsWith (pkg_of found) (pkg_of other)
-    each found other (inl new) (inl also) present is differ conflicts =
+        → IsPresent entry → IsPresent other → entry.name ≢ other.name → ¬ ConflictsWith (pkg_of entry) (pkg_of other)
+    each entry other (inl new) (inl also) present is differ conflicts =
         differ (ap (λ (pkg : Pkg). pkg.name) new ∙ sym (ap (λ (pkg : Pkg). pkg.name) also))
-    each found other (inl new) (inr old) present is differ conflicts = (compatible other old.0 old.1 is).0
+    each entry other (inl new) (inr old) present is differ conflicts = (compatible other old.0 old.1 is).0
         (let P : Pkg → Type 0 = λ pkg. ConflictsWith pkg (pkg_of other) in subst P new conflicts)
-    each found other (inr old) (inl new) present is differ conflicts = (compatible found old.0 old.1 present).1
-        (let P : Pkg → Type 0 = λ pkg. ConflictsWith (pkg_of found) pkg in subst P new conflicts)
-    each found other (inr old) (inr also) present is differ conflicts =
-        at_peace db quiet found other old.0 also.0 present is differ conflicts
+    each entry other (inr old) (inl new) present is differ conflicts = (compatible entry old.0 old.1 present).1
+        (let P : Pkg → Type 0 = λ pkg. ConflictsWith (pkg_of entry) pkg in subst P new conflicts)
+    each entry other (inr old) (inr also) present is differ conflicts =
+        no_conflict_between db quiet entry other old.0 also.0 present is differ conflicts
 
 -- the result of an unpacking of what is there, or of nothing
 quiet_listed : (listed : Option IndexPackage) (name version : List ℕ) (db : List Record) → OnListed (HasNoConflict db) listed → IsQuiet db
     → IsQuiet (result_of listed (step.Unpack name version) db)
 quiet_listed None name version db apart quiet = quiet
-quiet_listed (Some found) name version db apart quiet = quiet_unpack found db apart quiet
+quiet_listed (Some listed) name version db apart quiet = quiet_unpack listed db apart quiet
 
 -- every allowed action keeps a quiet database quiet
 pub quiet_kept : (u : Universe) (db : List Record) (taken : Step) → HasDistinctNames db → IsQuiet db → Allowed u db taken
@@ -302,7 +302,7 @@ quiet_kept u db (step.Deconfigure name) distinct quiet allowed =
 quiet_kept u db (step.Configure names) distinct quiet allowed =
     quiet_configure db names distinct (allowed 0 rule.WrongState (lit< tt)) quiet
 quiet_kept u db (step.Remove name) distinct quiet allowed = quiet_remove db name quiet
-quiet_kept u db (step.Purge name) distinct quiet allowed = quiet_filter (λ found. not (is_named name found)) db quiet
+quiet_kept u db (step.Purge name) distinct quiet allowed = quiet_filter (λ entry. not (is_named name entry)) db quiet
 
 -- a run from distinct names has distinct names at its end
 pub distinct_after_run : (u : Universe) (start reached : List Record) (steps : List Step) → HasDistinctNames start
@@ -322,17 +322,17 @@ quiet_after_run u start reached (taken ∷ rest) distinct quiet run = quiet_afte
 pub allowed_acts_on_present : AllowedActsOnPresent
 unfolding Allowed ActsOnPresent AreConfigurable HasConfigurable
 allowed_acts_on_present u db (step.Unpack name version) distinct allowed =
-    All-intro (λ found. false ≡ true → IsPresent found) db (λ found within is. absurd (let e : false ≡ true = is in cc))
+    All-intro (λ entry. false ≡ true → IsPresent entry) db (λ entry within is. absurd (let e : false ≡ true = is in cc))
 allowed_acts_on_present u db (step.Deconfigure name) distinct allowed =
-    All-intro (λ found. is_named name found ≡ true → IsPresent found) db (λ found within is.
-    installed_present found.state (the_named IsInstalled db distinct name (allowed 0 rule.WrongState (lit< tt)) found within is))
+    All-intro (λ entry. is_named name entry ≡ true → IsPresent entry) db (λ entry within is.
+    installed_present entry.state (the_named IsInstalled db distinct name (allowed 0 rule.WrongState (lit< tt)) entry within is))
 allowed_acts_on_present u db (step.Configure names) distinct allowed =
-    All-intro (λ found. is_among names found ≡ true → IsPresent found) db (λ found within is.
-    unconfigured_present found.state (the_record IsConfigurable db distinct found within
-    (All-contains (λ name. HasRecord IsConfigurable name db) names found.name (allowed 0 rule.WrongState (lit< tt))
-    (contains-is_among names found is))).0)
+    All-intro (λ entry. is_among names entry ≡ true → IsPresent entry) db (λ entry within is.
+    unconfigured_present entry.state (the_record IsConfigurable db distinct entry within
+    (All-contains (λ name. HasRecord IsConfigurable name db) names entry.name (allowed 0 rule.WrongState (lit< tt))
+    (contains-is_among names entry is))).0)
 allowed_acts_on_present u db (step.Remove name) distinct allowed =
-    All-intro (λ found. is_named name found ≡ true → IsPresent found) db (λ found within is.
-    (the_named (λ found. IsPresent found × HasSoundFlag found) db distinct name (allowed 0 rule.WrongState (lit< tt)) found within is).0)
+    All-intro (λ entry. is_named name entry ≡ true → IsPresent entry) db (λ entry within is.
+    (the_named (λ entry. IsPresent entry × HasSoundFlag entry) db distinct name (allowed 0 rule.WrongState (lit< tt)) entry within is).0)
 allowed_acts_on_present u db (step.Purge name) distinct allowed =
-    All-intro (λ found. false ≡ true → IsPresent found) db (λ found within is. absurd (let e : false ≡ true = is in cc))
+    All-intro (λ entry. false ≡ true → IsPresent entry) db (λ entry within is. absurd (let e : false ≡ true = is in cc))

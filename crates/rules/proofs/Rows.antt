@@ -32,7 +32,7 @@ not_so (no n) is = n
 -- the rule that a decision names, if it names one
 abbrev pub verdict : {A : Type 0} {P : Rule → Type 0} → A ⊎ ((rule : Rule) × P rule) → Option Rule
 verdict (inl allowed) = None
-verdict (inr found) = Some found.0
+verdict (inr failing) = Some failing.0
 
 -- a step for which the decision names no rule is allowed
 pub allowed_so : (u : Universe) (db : List Record) (step : Step) → verdict (allowed_or_failing u db step) ≡ None → Allowed u db step
@@ -40,7 +40,7 @@ allowed_so u db step is = at (allowed_or_failing u db step) is
   where
     at : (decision : Allowed u db step ⊎ ((rule : Rule) × IsFirstFailing u db step rule)) → verdict decision ≡ None → Allowed u db step
     at (inl allowed) is = allowed
-    at (inr found) is = absurd (let e : Some found.0 ≡ None = is in cc)
+    at (inr failing) is = absurd (let e : Some failing.0 ≡ None = is in cc)
 
 -- a rule that the decision names is the first that the step fails
 pub fails_so : (u : Universe) (db : List Record) (step : Step) (rule : Rule) → verdict (allowed_or_failing u db step) ≡ Some rule
@@ -50,7 +50,7 @@ fails_so u db step rule is = at (allowed_or_failing u db step) is
     at : (decision : Allowed u db step ⊎ ((first : Rule) × IsFirstFailing u db step first)) → verdict decision ≡ Some rule
         → IsFirstFailing u db step rule
     at (inl allowed) is = absurd (let e : None ≡ Some rule = is in cc)
-    at (inr found) is = let e : found.0 ≡ rule = cc in subst (IsFirstFailing u db step) e found.1
+    at (inr failing) is = let e : failing.0 ≡ rule = cc in subst (IsFirstFailing u db step) e failing.1
 
 -- an atom without a restriction and one with
 abbrev pub any_of : List ℕ → Atom

@@ -15,8 +15,8 @@ pub Run-parts : (u : Universe) (start finish : List Record) (steps more : List S
     → (reached : List Record) × Run u start steps reached × Run u reached more finish
 Run-parts u start finish [] more run = (start, refl, run)
 Run-parts u start finish (step ∷ rest) more run =
-    let found = Run-parts u (after u start step) finish rest more run.1 in
-    (found.0, (run.0, found.1), found.2)
+    let parts = Run-parts u (after u start step) finish rest more run.1 in
+    (parts.0, (run.0, parts.1), parts.2)
 
 -- a run goes on from its end
 pub Run-append : (u : Universe) (start reached finish : List Record) (steps more : List Step) → Run u start steps reached
@@ -31,7 +31,7 @@ pub run_goes_on : (u : Universe) (start finish : List Record) (steps more : List
     ↔ ((reached : List Record) × Run u start steps reached × Run u reached more finish)
 run_goes_on u start finish steps more = (
   Run-parts u start finish steps more,
-  λ found. Run-append u start found.0 finish steps more found.1 found.2,
+  λ parts. Run-append u start parts.0 finish steps more parts.1 parts.2,
 )
 
 -- a run has one end
@@ -65,9 +65,9 @@ run_or_stops u start (step ∷ rest) = at (allowed_or_failing u start step) (run
         ⊎ ((number : ℕ) × (rule : Rule) × StopsAt u (after u start step) rest number rule)
         → ((finish : List Record) × Run u start (step ∷ rest) finish)
         ⊎ ((number : ℕ) × (rule : Rule) × StopsAt u start (step ∷ rest) number rule)
-    at (inr found) later = inr (
+    at (inr failing) later = inr (
       1,
-      found.0,
+      failing.0,
       record {
         before = [];
         step = step;
@@ -76,7 +76,7 @@ run_or_stops u start (step ∷ rest) = at (allowed_or_failing u start step) (run
         place = refl;
         number_is = omega arith;
         run = refl;
-        failing = found.1;
+        failing = failing.1;
       },
     )
     at (inl allowed) (inl run) = inl (run.0, (allowed, run.1))

@@ -168,11 +168,11 @@ half_rows = (
 -- of one name that doesn't pass alone, no part passes but the empty one
 alone : (db : List Record) (name : List ℕ) (part : List (List ℕ)) → ¬ MemberPasses db (name ∷ []) name
     → IsGreatestPart db (name ∷ []) part → part ≡ []
-alone db name part fails found = empty_from_none part (λ other there. at other there
-    (Contains-cons name [] other (All-contains (Contains (name ∷ [])) part other found.within there)))
+alone db name part fails greatest = empty_from_none part (λ other there. at other there
+    (Contains-cons name [] other (All-contains (Contains (name ∷ [])) part other greatest.within there)))
   where
     at : (other : List ℕ) → Contains part other → (name ≡ other) ⊎ Contains [] other → ⊥
-    at other there (inl same) = fails_in_part db (name ∷ []) part found.within found.passes name fails (subst (Contains part) (sym same) there)
+    at other there (inl same) = fails_in_part db (name ∷ []) part greatest.within greatest.passes name fails (subst (Contains part) (sym same) there)
     at other there (inr none) = Contains-nil other none
 
 -- but they are together: neither passes alone

@@ -5,7 +5,7 @@ use Rattle.std.specs.Prelude.{codes, ◌≢◌, ⊤, MatchOption}
 use Rattle.std.specs.List.{All, Contains}
 use Rattle.std.specs.declared.cmp.Ordering.TheVariants.{Less, Equal, Greater}
 use Rattle.std.proofs.lemmas.List.Elements.{All-cons, All-nil}
-use Rattle.rules.specs.Database.{Record, HasDistinctNames, IsAtPeaceWith, IsInstalled, IsQuiet, IsUnfinished, Stands, installed_of, is_unfinished, pkg_of}
+use Rattle.rules.specs.Database.{Record, HasDistinctNames, HasNoConflictWith, IsInstalled, IsQuiet, IsUnfinished, Stands, installed_of, is_unfinished, pkg_of}
 use Rattle.rules.specs.ElementLaws.{Any-elim, Contains-cons, Contains-nil}
 use Rattle.rules.specs.FileRecord.{FileRecord, entries_after}
 use Rattle.rules.specs.Legal.{Allowed, IsFirstFailing}
@@ -58,7 +58,7 @@ a_touched status behind = record { fields = a_fields status behind; bytes = None
 -- the entry of a as it was read, whatever its bytes
 abbrev a_pending : Option (List ℕ) → FileRecord
 a_pending bytes = record {
-  found = record_of TriggersPending (Some (codes "1")) a_1;
+  status = record_of TriggersPending (Some (codes "1")) a_1;
   stanza = record {
     fields = a_fields (codes "install ok triggers-pending") (field (codes "Triggers-Pending") (codes "ldconfig") ∷ []);
     bytes = bytes;
@@ -69,7 +69,7 @@ a_pending bytes = record {
 pub configured_row : (bytes : Option (List ℕ))
     → entries_after None (step.Configure (codes "a" ∷ [])) (a_pending bytes ∷ [])
     ≡ record {
-      found = record_of Installed (Some (codes "1")) a_1;
+      status = record_of Installed (Some (codes "1")) a_1;
       stanza = a_touched (codes "install ok installed") [];
     } ∷ []
 configured_row bytes = refl
@@ -77,7 +77,7 @@ configured_row bytes = refl
 -- removed, its config files are left, and its version stands as the config version behind Version
 pub removed_row : (bytes : Option (List ℕ)) → entries_after None (step.Remove (codes "a")) (a_pending bytes ∷ [])
     ≡ record {
-      found = record (record_of ConfigFiles (Some (codes "1")) a_1) { want = Deinstall };
+      status = record (record_of ConfigFiles (Some (codes "1")) a_1) { want = Deinstall };
       stanza = a_touched (codes "deinstall ok config-files") (field (codes "Config-Version") (codes "1") ∷ []);
     } ∷ []
 removed_row bytes = refl
@@ -89,12 +89,12 @@ abbrev a_in : State → Option (List ℕ) → List Record
 a_in state said = record_of state said a_1 ∷ []
 
 -- one package alone is quiet
-quiet_alone : (found : Record) → IsQuiet (found ∷ [])
-unfolding IsQuiet IsAtPeaceWith
-quiet_alone found = All-cons (λ r. All (IsAtPeaceWith r) (found ∷ [])) found []
-    (All-cons (IsAtPeaceWith found) found [] (λ present other_present apart. absurd (apart refl))
-    (All-nil (IsAtPeaceWith found)))
-    (All-nil (λ r. All (IsAtPeaceWith r) (found ∷ [])))
+quiet_alone : (entry : Record) → IsQuiet (entry ∷ [])
+unfolding IsQuiet HasNoConflictWith
+quiet_alone entry = All-cons (λ r. All (HasNoConflictWith r) (entry ∷ [])) entry []
+    (All-cons (HasNoConflictWith entry) entry [] (λ present other_present apart. absurd (apart refl))
+    (All-nil (HasNoConflictWith entry)))
+    (All-nil (λ r. All (HasNoConflictWith r) (entry ∷ [])))
 
 -- whether no member of another name matches an atom, and whether a member is content
 unfoldable dec_MatchedByNoOther : (members : List Pkg) (name : List ℕ) (atoms : List Atom)
@@ -123,19 +123,19 @@ pending_unfinished said = record { against = (0, a, lit< tt, refl, (refl, refl))
     a : Record
     a = record_of TriggersPending said a_1
 
-    same : (name : List ℕ) (found : Record) → (a ≡ found) ⊎ Contains [] found → found.name ≡ name
+    same : (name : List ℕ) (entry : Record) → (a ≡ entry) ⊎ Contains [] entry → entry.name ≡ name
         → reason_cmp (reason.Unfinished name) (reason.Unfinished (codes "a")) ≡ Less → ⊥
-    same name found (inl is_a) named is =
+    same name entry (inl is_a) named is =
         absurd (let e : Equal ≡ Less = subst P (sym named ∙ ap (λ (r : Record). r.name) (sym is_a)) is in cc)
       where
         P : List ℕ → Type 0
         P n = reason_cmp (reason.Unfinished n) (reason.Unfinished (codes "a")) ≡ Less
-    same name found (inr none) named is = Contains-nil found none
+    same name entry (inr none) named is = Contains-nil entry none
 
     least : (other : Reason) → IsAgainst (a_alone said) (a ∷ []) other
         → ¬ (reason_cmp other (reason.Unfinished (codes "a")) ≡ Less)
-    least (reason.Unfinished name) against is = Any-elim (λ found. (found.name ≡ name) × IsUnfinished found) (a ∷ []) ⊥
-        (λ found within both. same name found (Contains-cons a [] found within) both.0 is) against
+    least (reason.Unfinished name) against is = Any-elim (λ entry. (entry.name ≡ name) × IsUnfinished entry) (a ∷ []) ⊥
+        (λ entry within both. same name entry (Contains-cons a [] entry within) both.0 is) against
     least (reason.Relation name) against is = absurd (let e : Greater ≡ Less = is in cc)
     least (reason.Essential name) against is = absurd (let e : Greater ≡ Less = is in cc)
     least (reason.Goal number) against is = absurd (let e : Greater ≡ Less = is in cc)
@@ -208,12 +208,12 @@ unfolding version_cmp dec_Decides dec_IsTrue dec_IsFalse dec_and dec_and3 dec_or
 awaiting_built said = record {
   distinct = λ i j d before within. absurd (omega (arith, before, within));
   starts = refl;
-  standing = All-cons (λ found. Stands found → HasPair (awaiting said) found.name found.version)
+  standing = All-cons (λ entry. Stands entry → HasPair (awaiting said) entry.name entry.version)
       (record_of TriggersAwaited said a_1) []
       (λ stands. so (dec_Any (λ pair. IsOf (codes "a") (codes "1") pair.pkg)
       (λ pair. dec_and (dec_text pair.pkg.name (codes "a")) (dec_SameVersion pair.pkg.version (codes "1")))
       (unindexed a_1 ∷ indexed b_1 ∷ [])) refl)
-      (All-nil (λ found. Stands found → HasPair (awaiting said) found.name found.version));
+      (All-nil (λ entry. Stands entry → HasPair (awaiting said) entry.name entry.version));
   listed = All-cons IsListed (unindexed a_1) (indexed b_1 ∷ []) tt
       (All-cons IsListed (indexed b_1) [] (refl, refl) (All-nil IsListed));
 }
@@ -228,7 +228,7 @@ content member is = so (dec_HasItsRelations (installed_of both_installed) member
 
 -- a and b are content with each other
 awaited_content :
-    All (λ found. IsInstalled found → HasItsRelations (installed_of both_installed) (pkg_of found)) both_installed
+    All (λ entry. IsInstalled entry → HasItsRelations (installed_of both_installed) (pkg_of entry)) both_installed
 unfolding version_cmp dec_Decides dec_IsTrue dec_IsFalse dec_and dec_and3 dec_or dec_not dec_implies dec_like dec_All dec_Any dec_text dec_Equal dec_Contains all_or_some dec_MeetsRestriction dec_Meets dec_MeetsAsProvided dec_FitsByName dec_FitsProvided dec_FitsByProvides dec_Matches dec_MatchesSome dec_ConflictsWith dec_BreaksOther dec_MeetsClause dec_MeetsClauses dec_SameVersion dec_HasRecord dec_ForOthers dec_SomeOther dec_ForMembers dec_FitsThenAndNow dec_MatchOption dec_FitsFromBefore dec_SatisfiesAtom dec_IsSatisfied dec_HasPreDepends dec_IsCompatible dec_HasNoConflict dec_BreaksNone dec_OnListed dec_IsNotHeld dec_StandsAs dec_AreConfigurable dec_ArePreDependsInstalled dec_AreDependsInstalled dec_IsUnbroken dec_AreUnbroken dec_IsMetWithout dec_NeedsNot dec_IsNeededByNone dec_IsNotNeeded dec_named dec_MemberPasses greatest_upto greatest_part dec_IsIndivisible dec_UnpackAsks dec_ConfigureAsks dec_RemoveAsks dec_DeconfigureAsks dec_PurgeAsks dec_Asks kept_or_first allowed_or_failing MatchedByNoOther dec_MatchedByNoOther dec_HasItsRelations
 awaited_content = All-cons IsIn
     (record_of Installed (Some (codes "1")) a_1) (record_of Installed (Some (codes "1")) b_1 ∷ [])
@@ -236,13 +236,13 @@ awaited_content = All-cons IsIn
     (All-cons IsIn (record_of Installed (Some (codes "1")) b_1) [] (λ installed. content b_1 refl) (All-nil IsIn))
   where
     IsIn : Record → Type 0
-    IsIn found = IsInstalled found → HasItsRelations (installed_of both_installed) (pkg_of found)
+    IsIn entry = IsInstalled entry → HasItsRelations (installed_of both_installed) (pkg_of entry)
 
 -- nothing is against the end
 awaited_end : (said : Option (List ℕ)) → HasNothingAgainst (awaiting said) both_installed
 unfolding version_cmp dec_Decides dec_IsTrue dec_IsFalse dec_and dec_and3 dec_or dec_not dec_implies dec_like dec_All dec_Any dec_text dec_Equal dec_Contains all_or_some dec_MeetsRestriction dec_Meets dec_MeetsAsProvided dec_FitsByName dec_FitsProvided dec_FitsByProvides dec_Matches dec_MatchesSome dec_ConflictsWith dec_BreaksOther dec_MeetsClause dec_MeetsClauses dec_SameVersion dec_HasRecord dec_ForOthers dec_SomeOther dec_ForMembers dec_FitsThenAndNow dec_MatchOption dec_FitsFromBefore dec_SatisfiesAtom dec_IsSatisfied dec_HasPreDepends dec_IsCompatible dec_HasNoConflict dec_BreaksNone dec_OnListed dec_IsNotHeld dec_StandsAs dec_AreConfigurable dec_ArePreDependsInstalled dec_AreDependsInstalled dec_IsUnbroken dec_AreUnbroken dec_IsMetWithout dec_NeedsNot dec_IsNeededByNone dec_IsNotNeeded dec_named dec_MemberPasses greatest_upto greatest_part dec_IsIndivisible dec_UnpackAsks dec_ConfigureAsks dec_RemoveAsks dec_DeconfigureAsks dec_PurgeAsks dec_Asks kept_or_first allowed_or_failing KeepsEssential dec_MatchedByNoOther dec_HasItsRelations
 awaited_end said = record {
-  finished = so (dec_All (λ found. ¬ IsUnfinished found) (λ found. dec_not (dec_IsTrue (is_unfinished found)))
+  finished = so (dec_All (λ entry. ¬ IsUnfinished entry) (λ entry. dec_not (dec_IsTrue (is_unfinished entry)))
       both_installed) refl;
   content = awaited_content;
   essential = All-cons (KeepsEssential (installed_of both_installed)) (start_of (record_of TriggersAwaited said a_1)) []

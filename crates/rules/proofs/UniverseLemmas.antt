@@ -37,10 +37,10 @@ same_index_package indices name version other same = find-agree
 same_standing_record : (db : List Record) (name version other : List ℕ) → SameVersion version other
     → standing_record db name version ≡ standing_record db name other
 same_standing_record db name version other same = find-agree
-    (λ (found : Record). is_named name found && stands found && same_version found.version version)
-    (λ (found : Record). is_named name found && stands found && same_version found.version other)
-    (λ found. ap (λ (o : Ordering). is_named name found && stands found && is_eq o)
-    (version_cmp-same_right found.version version other same)) db
+    (λ (entry : Record). is_named name entry && stands entry && same_version entry.version version)
+    (λ (entry : Record). is_named name entry && stands entry && same_version entry.version other)
+    (λ entry. ap (λ (o : Ordering). is_named name entry && stands entry && is_eq o)
+    (version_cmp-same_right entry.version version other same)) db
 
 pub same_counting_package : (inputs : Inputs) (name version other : List ℕ) → SameVersion version other
     → counting_package inputs name version ≡ counting_package inputs name other
@@ -91,8 +91,8 @@ same_texts candidate other names versions =
     ap along names ∙ ap past versions
 
 -- the text is that of the package found
-kept-text : (found : Option Pkg) (version : List ℕ) → MatchOption found ⊥ (λ pkg. pkg.version ≡ version)
-    → option_map (λ (pkg : Pkg). pkg.version) found ≡ Some version
+kept-text : (counting : Option Pkg) (version : List ℕ) → MatchOption counting ⊥ (λ pkg. pkg.version ≡ version)
+    → option_map (λ (pkg : Pkg). pkg.version) counting ≡ Some version
 kept-text None version kept = absurd kept
 kept-text (Some pkg) version kept = ap Some kept
 
@@ -107,10 +107,10 @@ one_text inputs candidate other names same kept kept' =
     kept-text (counting_package inputs candidate.name candidate.version) candidate.version kept in
     let there : text (counting_package inputs other.name other.version) ≡ Some other.version =
     kept-text (counting_package inputs other.name other.version) other.version kept' in
-    let found : counting_package inputs candidate.name candidate.version ≡ counting_package inputs other.name other.version =
+    let same_package : counting_package inputs candidate.name candidate.version ≡ counting_package inputs other.name other.version =
     ap (λ (n : List ℕ). counting_package inputs n candidate.version) names
     ∙ same_counting_package inputs other.name candidate.version other.version same in
-    same_Some candidate.version other.version (sym here ∙ ap text found ∙ there)
+    same_Some candidate.version other.version (sym here ∙ ap text same_package ∙ there)
 
 -- a candidate of the one universe is one of the other
 candidate_within : (inputs : Inputs) (u v : Universe) → IsUniverse inputs u → IsUniverse inputs v → IsWithin u.candidates v.candidates

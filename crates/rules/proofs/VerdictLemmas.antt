@@ -33,50 +33,50 @@ use mathlib.Core.Logic.{inl}
 
 -- the record that an installed package is of
 record Stems (db : List Record) (member : Pkg) : Type 0 where
-  pub found : Record
-  pub within : Contains db found
-  pub installed : IsInstalled found
-  pub same : pkg_of found ≡ member
+  pub entry : Record
+  pub within : Contains db entry
+  pub installed : IsInstalled entry
+  pub same : pkg_of entry ≡ member
 
 stem_of : (db : List Record) (member : Pkg) → Contains (installed_of db) member → Stems db member
 stem_of db member within =
     let from = Contains-map pkg_of (filter (λ r. is_installed_state r.state) db) member within in
     let kept = Contains-filter (λ r. is_installed_state r.state) db from.0 from.1 in
-    record { found = from.0; within = kept.0; installed = kept.1; same = from.2 }
+    record { entry = from.0; within = kept.0; installed = kept.1; same = from.2 }
 
 -- what holds of each installed record's package holds of the installed packages
-All-installed : (P : Pkg → Type 0) (db : List Record) → ((found : Record) → Contains db found → IsInstalled found → P (pkg_of found))
+All-installed : (P : Pkg → Type 0) (db : List Record) → ((entry : Record) → Contains db entry → IsInstalled entry → P (pkg_of entry))
     → All P (installed_of db)
 All-installed P db each = All-intro P (installed_of db) (λ member within.
-    let stem = stem_of db member within in subst P stem.same (each stem.found stem.within stem.installed))
+    let stem = stem_of db member within in subst P stem.same (each stem.entry stem.within stem.installed))
 
 -- the installed packages are of one version a name
 one_version : (db : List Record) → HasDistinctNames db → HasOneVersionEach (installed_of db)
 unfolding HasOneVersionEach AgreesWith
-one_version db distinct = All-installed (λ member. All (AgreesWith member) (installed_of db)) db (λ found within is.
-    All-installed (AgreesWith (pkg_of found)) db (λ other there also same.
-    subst (λ (r : Record). SameVersion found.version r.version) (sym (one_record db distinct found other within there same))
-    (same_version_equivalence.reflexive found.version)))
+one_version db distinct = All-installed (λ member. All (AgreesWith member) (installed_of db)) db (λ entry within is.
+    All-installed (AgreesWith (pkg_of entry)) db (λ other there also same.
+    subst (λ (r : Record). SameVersion entry.version r.version) (sym (one_record db distinct entry other within there same))
+    (same_version_equivalence.reflexive entry.version)))
 
 -- the installed packages are admitted
-admitted_in : (u : Universe) (db : List Record) → All (IsAdmissible u) db → All (λ found. ¬ IsUnfinished found) db
+admitted_in : (u : Universe) (db : List Record) → All (IsAdmissible u) db → All (λ entry. ¬ IsUnfinished entry) db
     → IsAdmittedIn u (installed_of db)
 unfolding IsAdmittedIn HasPair
 admitted_in u db all finished = All-installed (λ member. Any (λ pair. IsOf member.name member.version pair.pkg) u.pairs) db
-    (λ found within is. All-contains (IsAdmissible u) db found all within
-    (finished_stands found (All-contains (λ r. ¬ IsUnfinished r) db found finished within) is))
+    (λ entry within is. All-contains (IsAdmissible u) db entry all within
+    (finished_stands entry (All-contains (λ r. ¬ IsUnfinished r) db entry finished within) is))
 
 -- a hold of the start is kept at the end of a run where nothing is unfinished
 keeps_hold : (u : Universe) (start finish : List Record) (steps : List Step) → IsBuiltOn start u → Run u start steps finish
-    → All (λ found. ¬ IsUnfinished found) finish → (old : Record) → Contains start old → KeepsHold (installed_of finish) (start_of old)
+    → All (λ entry. ¬ IsUnfinished entry) finish → (old : Record) → Contains start old → KeepsHold (installed_of finish) (start_of old)
 unfolding KeepsHold HasVersion
 keeps_hold u start finish steps built run finished old within held = at (stands old) refl
   where
     kept : IsTrue (stands old) → Any (IsOf old.name old.version) (installed_of finish)
     kept is = Any-elim (StaysHeld old) finish (Any (IsOf old.name old.version) (installed_of finish))
-        (λ found there stays. Any-intro (IsOf old.name old.version) (installed_of finish) (pkg_of found)
-        (installed_contains finish found there
-        (finished_installed found (All-contains (λ r. ¬ IsUnfinished r) finish found finished there) stays.2))
+        (λ entry there stays. Any-intro (IsOf old.name old.version) (installed_of finish) (pkg_of entry)
+        (installed_contains finish entry there
+        (finished_installed entry (All-contains (λ r. ¬ IsUnfinished r) finish entry finished there) stays.2))
         (stays.0, subst (λ v. SameVersion v old.version) (sym stays.3) (same_version_equivalence.reflexive old.version)))
         (held_after_run start u built start finish steps old
         (Any-intro (StaysHeld old) start old within (refl, held, is, refl)) run)
@@ -88,7 +88,7 @@ keeps_hold u start finish steps built run finished old within held = at (stands 
 
 -- each hold is kept
 keeps_holds : (u : Universe) (start finish : List Record) (steps : List Step) → IsBuiltOn start u → Run u start steps finish
-    → All (λ found. ¬ IsUnfinished found) finish → All (KeepsHold (installed_of finish)) u.starts
+    → All (λ entry. ¬ IsUnfinished entry) finish → All (KeepsHold (installed_of finish)) u.starts
 keeps_holds u start finish steps built run finished =
     subst (All (KeepsHold (installed_of finish))) (sym built.starts)
     (All-intro (KeepsHold (installed_of finish)) (starts_of start) (λ fact within.
@@ -103,8 +103,8 @@ good_end u start finish steps built run none = record {
   fitting = record {
     admitted = admitted_in u finish (admissible_after_run start u built start finish steps built.distinct built.standing run) none.finished;
     one_version = one_version finish (distinct_after_run u start finish steps built.distinct run);
-    sound = All-installed (HasItsRelations (installed_of finish)) finish (λ found within is.
-        All-contains (λ r. IsInstalled r → HasItsRelations (installed_of finish) (pkg_of r)) finish found none.content within is);
+    sound = All-installed (HasItsRelations (installed_of finish)) finish (λ entry within is.
+        All-contains (λ r. IsInstalled r → HasItsRelations (installed_of finish) (pkg_of r)) finish entry none.content within is);
     goals = All-intro (Fulfils u (installed_of finish)) u.goals (λ asked within.
         (All-contains (λ asked. Fulfils u (installed_of finish) asked × IsPurged finish asked) u.goals asked none.goals within).0);
     held = keeps_holds u start finish steps built run none.finished;
@@ -118,9 +118,9 @@ nothing_against : (u : Universe) (finish : List Record) → IsGoodEnd u finish �
 unfolding IsSound FulfilsAll
 nothing_against u finish good = record {
   finished = good.finished;
-  content = All-intro (λ r. IsInstalled r → HasItsRelations (installed_of finish) (pkg_of r)) finish (λ found within is.
-      All-contains (HasItsRelations (installed_of finish)) (installed_of finish) (pkg_of found) good.fitting.sound
-      (installed_contains finish found within is));
+  content = All-intro (λ r. IsInstalled r → HasItsRelations (installed_of finish) (pkg_of r)) finish (λ entry within is.
+      All-contains (HasItsRelations (installed_of finish)) (installed_of finish) (pkg_of entry) good.fitting.sound
+      (installed_contains finish entry within is));
   essential = good.fitting.essential;
   goals = All-intro (λ asked. Fulfils u (installed_of finish) asked × IsPurged finish asked) u.goals (λ asked within. (
     All-contains (Fulfils u (installed_of finish)) u.goals asked good.fitting.goals within,
@@ -134,8 +134,8 @@ good_where_nothing_is_against u start finish steps built run =
 
 -- what is found passes
 find_passes : {X : Type 0} (p : X → Bool) (xs : List X) (x : X) → find p xs ≡ Some x → p x ≡ true
-find_passes p [] x found = absurd (let e : None ≡ Some x = found in cc)
-find_passes {X} p (y ∷ ys) x found = at (p y) refl found (find_passes p ys x)
+find_passes p [] x is_first = absurd (let e : None ≡ Some x = is_first in cc)
+find_passes {X} p (y ∷ ys) x is_first = at (p y) refl is_first (find_passes p ys x)
   where
     at : (b : Bool) → p y ≡ b → cond b (Some y) (find p ys) ≡ Some x → (find p ys ≡ Some x → p x ≡ true) → p x ≡ true
     at true is same later = ap p (sym (let e : y ≡ x = cc in e)) ∙ is
@@ -145,10 +145,10 @@ find_passes {X} p (y ∷ ys) x found = at (p y) refl found (find_passes p ys x)
 listed_of_pair : (indices : List Index) (pair : Pair) (listed : Option IndexPackage)
     → index_package indices pair.pkg.name pair.pkg.version ≡ listed
     → MatchOption listed ⊤ (λ (l : IndexPackage). IsOf pair.pkg.name pair.pkg.version l.pkg)
-listed_of_pair indices pair None found = tt
-listed_of_pair indices pair (Some listed) found =
+listed_of_pair indices pair None is_listed = tt
+listed_of_pair indices pair (Some listed) is_listed =
     let is = both_true (bytes_eq listed.pkg.name pair.pkg.name) (same_version listed.pkg.version pair.pkg.version)
-    (find_passes (λ (l : IndexPackage). is_of pair.pkg.name pair.pkg.version l.pkg) (all_listed indices) listed found) in
+    (find_passes (λ (l : IndexPackage). is_of pair.pkg.name pair.pkg.version l.pkg) (all_listed indices) listed is_listed) in
     (bytes_eq-true listed.pkg.name pair.pkg.name is.0, same_is is.1)
   where
     same_is : IsTrue (same_version listed.pkg.version pair.pkg.version) → SameVersion listed.pkg.version pair.pkg.version
@@ -159,16 +159,16 @@ unfolding IsAdmitted StandsAs HasPair
 universe_is_built inputs u distinct is = record {
   distinct = distinct;
   starts = is.starts;
-  standing = All-intro (IsAdmissible u) inputs.start (λ found within stands. (is.admitted found.name found.version).0
-      (inl (Any-intro (λ r. (r.name ≡ found.name) × (Stands r × SameVersion r.version found.version)) inputs.start found within
-      (refl, (stands, same_version_equivalence.reflexive found.version)))));
+  standing = All-intro (IsAdmissible u) inputs.start (λ entry within stands. (is.admitted entry.name entry.version).0
+      (inl (Any-intro (λ r. (r.name ≡ entry.name) × (Stands r × SameVersion r.version entry.version)) inputs.start entry within
+      (refl, (stands, same_version_equivalence.reflexive entry.version)))));
   listed = All-intro (λ (pair : Pair). MatchOption pair.listed ⊤ (λ (l : IndexPackage). IsOf pair.pkg.name pair.pkg.version l.pkg)) u.pairs
       (λ pair within. listed_of_pair inputs.indices pair pair.listed
       (All-contains (λ (p : Pair). index_package inputs.indices p.pkg.name p.pkg.version ≡ p.listed) u.pairs pair is.listed within));
 }
 
 -- no reason is against an end where nothing is
-no_reason : (u : Universe) (db : List Record) → HasNothingAgainst u db → (found : Reason) → ¬ IsAgainst u db found
+no_reason : (u : Universe) (db : List Record) → HasNothingAgainst u db → (reason : Reason) → ¬ IsAgainst u db reason
 unfolding LacksARelation IsUnfulfilled
 no_reason u db none (reason.Unfinished name) against = Any-elim (λ r. (r.name ≡ name) × IsUnfinished r) db ⊥
     (λ r within both. All-contains (λ r. ¬ IsUnfinished r) db r none.finished within both.1) against
@@ -198,6 +198,6 @@ good_plan_has_yes u start steps verdict.Yes plan is = refl
 good_plan_has_yes u start steps verdict.Start plan is = absurd (is plan.quiet)
 good_plan_has_yes u start steps (verdict.Step number rule) plan is =
     absurd (stops_no_run u start plan.finish steps number rule is.1 plan.run)
-good_plan_has_yes u start steps (verdict.End found) plan is =
+good_plan_has_yes u start steps (verdict.End reason) plan is =
     let good : IsGoodEnd u is.1.0 = subst (IsGoodEnd u) (one_end u start plan.finish is.1.0 steps plan.run is.1.1) plan.good in
-    absurd (no_reason u is.1.0 (nothing_against u is.1.0 good) found is.1.2.against)
+    absurd (no_reason u is.1.0 (nothing_against u is.1.0 good) reason is.1.2.against)

@@ -46,7 +46,7 @@ is_of name version pkg = bytes_eq pkg.name name && same_version pkg.version vers
 -- the record of the name, where it stands in this version
 abbrev pub standing_record : List Record → List ℕ → List ℕ → Option Record
 standing_record db name version =
-    find (λ found. is_named name found && stands found && same_version found.version version) db
+    find (λ entry. is_named name entry && stands entry && same_version entry.version version) db
 
 -- the index package of a pair: that of the earliest stanza of an index
 abbrev pub index_package : List Index → List ℕ → List ℕ → Option IndexPackage

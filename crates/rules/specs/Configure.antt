@@ -9,11 +9,11 @@ use Rattle.rules.specs.Step.{is_among}
 
 -- the record may be configured: unpacked, half-configured or in a trigger state, with flag ok
 abbrev pub IsConfigurable : Record → Type 0
-IsConfigurable found = IsUnconfigured found × HasSoundFlag found
+IsConfigurable entry = IsUnconfigured entry × HasSoundFlag entry
 
 -- the record is present and of one of the names, as a test
 abbrev pub is_present_among : List (List ℕ) → Record → Bool
-is_present_among names found = is_present_state found.state && is_among names found
+is_present_among names entry = is_present_state entry.state && is_among names entry
 
 -- the present packages of these names
 abbrev pub members_of : List (List ℕ) → List Record → List Pkg

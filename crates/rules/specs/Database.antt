@@ -22,57 +22,57 @@ pub record Record : Type 0 where
 
 -- stands, as a test
 abbrev pub stands : Record → Bool
-stands found = (is_unconfigured_state found.state || is_installed_state found.state) && is_sound_flag found.flag
+stands entry = (is_unconfigured_state entry.state || is_installed_state entry.state) && is_sound_flag entry.flag
 
 -- unfinished, as a test: in a state in which something is left to be done, or not sound
 abbrev pub is_unfinished : Record → Bool
-is_unfinished found = is_unfinished_state found.state
-    || (not (is_sound_flag found.flag) && not (is_not_installed_state found.state))
+is_unfinished entry = is_unfinished_state entry.state
+    || (not (is_sound_flag entry.flag) && not (is_not_installed_state entry.state))
 
 -- unfinished: half-installed, unpacked, half-configured or in a trigger state, or to be installed again unless it is
 -- not-installed
 abbrev pub IsUnfinished : Record → Type 0
-IsUnfinished found = IsTrue (is_unfinished found)
+IsUnfinished entry = IsTrue (is_unfinished entry)
 
 -- present: half-installed, unpacked, half-configured, in a trigger state or installed
 abbrev pub IsPresent : Record → Type 0
-IsPresent found = IsTrue (is_present_state found.state)
+IsPresent entry = IsTrue (is_present_state entry.state)
 
 -- unconfigured: unpacked, half-configured or in a trigger state
 abbrev pub IsUnconfigured : Record → Type 0
-IsUnconfigured found = IsTrue (is_unconfigured_state found.state)
+IsUnconfigured entry = IsTrue (is_unconfigured_state entry.state)
 
 -- installed: in the state installed
 abbrev pub IsInstalled : Record → Type 0
-IsInstalled found = IsTrue (is_installed_state found.state)
+IsInstalled entry = IsTrue (is_installed_state entry.state)
 
 -- removed: configuration files alone are left
 abbrev pub IsRemoved : Record → Type 0
-IsRemoved found = IsTrue (is_config_files_state found.state)
+IsRemoved entry = IsTrue (is_config_files_state entry.state)
 
 -- the flag is ok
 abbrev pub HasSoundFlag : Record → Type 0
-HasSoundFlag found = IsTrue (is_sound_flag found.flag)
+HasSoundFlag entry = IsTrue (is_sound_flag entry.flag)
 
 -- stands: unpacked, half-configured, in a trigger state or installed, with flag ok
 abbrev pub Stands : Record → Type 0
-Stands found = IsTrue (stands found)
+Stands entry = IsTrue (stands entry)
 
 -- held: want hold
 abbrev pub IsHeld : Record → Type 0
-IsHeld found = IsTrue (is_hold found.want)
+IsHeld entry = IsTrue (is_hold entry.want)
 
 -- essential: marked so in the stanza (Policy 5.6.9)
 abbrev pub IsEssential : Record → Type 0
-IsEssential found = IsTrue found.is_essential
+IsEssential entry = IsTrue entry.is_essential
 
 -- the package of a present record, as its stanza gives it
 abbrev pub pkg_of : Record → Pkg
-pkg_of found = record { name = found.name; version = found.version; relations = found.relations }
+pkg_of entry = record { name = entry.name; version = entry.version; relations = entry.relations }
 
 -- the record of the name has the property
 abbrev pub HasRecord : (Record → Type 0) → List ℕ → List Record → Type 0
-HasRecord P name db = Any (λ found. (found.name ≡ name) × P found) db
+HasRecord P name db = Any (λ entry. (entry.name ≡ name) × P entry) db
 
 -- each record of another name has the property
 abbrev pub ForOthers : (Record → Type 0) → List ℕ → List Record → Type 0
@@ -91,14 +91,14 @@ unfoldable pub HasDistinctNames : List Record → Type 0
 HasDistinctNames db = AllPairs (λ earlier later. earlier.name ≢ later.name) db
 
 -- the package of the first record doesn't conflict with that of the second, if both are present and of two names
-unfoldable pub IsAtPeaceWith : Record → Record → Type 0
-IsAtPeaceWith found other =
-    IsPresent found → IsPresent other → found.name ≢ other.name → ¬ ConflictsWith (pkg_of found) (pkg_of other)
+unfoldable pub HasNoConflictWith : Record → Record → Type 0
+HasNoConflictWith entry other =
+    IsPresent entry → IsPresent other → entry.name ≢ other.name → ¬ ConflictsWith (pkg_of entry) (pkg_of other)
 
 -- quiet: no present package has a Conflicts atom that a present package of another name matches
 unfoldable pub IsQuiet : List Record → Type 0
-IsQuiet db = All (λ found. All (IsAtPeaceWith found) db) db
+IsQuiet db = All (λ entry. All (HasNoConflictWith entry) db) db
 
 -- the installed packages, as their own stanzas give them
 abbrev pub installed_of : List Record → List Pkg
-installed_of db = map pkg_of (filter (λ found. is_installed_state found.state) db)
+installed_of db = map pkg_of (filter (λ entry. is_installed_state entry.state) db)

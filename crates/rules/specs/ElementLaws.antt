@@ -48,7 +48,7 @@ pub Contains-map : {X Y : Type 0} (f : X → Y) (xs : List X) (y : Y) → Contai
 Contains-map f [] y within = absurd (Contains-nil y within)
 Contains-map f (x ∷ xs) y within = elim (Contains-cons (f x) (map f xs) y within) [
   | inl same ↦ (x, Contains-head x xs, same)
-  | inr later ↦ let found = Contains-map f xs y later in (found.0, Contains-rest x xs found.0 found.1, found.2)
+  | inr later ↦ let witness = Contains-map f xs y later in (witness.0, Contains-rest x xs witness.0 witness.1, witness.2)
 ]
 
 -- what an element becomes is an element of the mapped list

@@ -18,12 +18,12 @@ pub record IndexStanza : Type 0 where
 
 -- a record with its stanza
 pub record FileRecord : Type 0 where
-  pub found : Record
+  pub status : Record
   pub stanza : Stanza
 
 -- the records of the entries
 abbrev pub records_of : List FileRecord → List Record
-records_of entries = map (λ entry. entry.found) entries
+records_of entries = map (λ entry. entry.status) entries
 
 -- the config version that a stanza says: not that of an installed package or of one in a trigger state, whose Version
 -- says it
@@ -39,46 +39,46 @@ written_config_version Installed config_version = None
 
 -- the field Status of a record
 abbrev pub status_of : Record → Field
-status_of found = status_field found.want found.flag found.state
+status_of entry = status_field entry.want entry.flag entry.state
 
 -- the stanza that says what the record says, from these fields
 abbrev pub touched_stanza : Record → List Field → Stanza
-touched_stanza found fields = record {
-  fields = touched_fields (status_of found) (written_config_version found.state found.config_version) fields;
+touched_stanza entry fields = record {
+  fields = touched_fields (status_of entry) (written_config_version entry.state entry.config_version) fields;
   bytes = None;
 }
 
 -- the stanza of an unpacked record, from the fields of the index and those of the stanza before
 abbrev pub unpacked_stanza : Record → List Field → List Field → Stanza
-unpacked_stanza found index_fields old_fields = record {
-  fields = unpacked_fields (status_of found) found.config_version index_fields old_fields;
+unpacked_stanza entry index_fields old_fields = record {
+  fields = unpacked_fields (status_of entry) entry.config_version index_fields old_fields;
   bytes = None;
 }
 
 -- the entry after a change of its record, from the fields that the state before leaves
 abbrev pub touched_entry : (Record → Record) → FileRecord → FileRecord
 touched_entry change entry = record {
-  found = change entry.found;
-  stanza = touched_stanza (change entry.found) (lasting_fields entry.found.state entry.stanza.fields);
+  status = change entry.status;
+  stanza = touched_stanza (change entry.status) (lasting_fields entry.status.state entry.stanza.fields);
 }
 
 -- the entry of a stanza of an index unpacked in the place of another
 abbrev pub unpacked_entry : IndexStanza → FileRecord → FileRecord
 unpacked_entry indexed entry = record {
-  found = unpacked_over indexed.listed entry.found;
-  stanza = unpacked_stanza (unpacked_over indexed.listed entry.found) indexed.fields entry.stanza.fields;
+  status = unpacked_over indexed.listed entry.status;
+  stanza = unpacked_stanza (unpacked_over indexed.listed entry.status) indexed.fields entry.stanza.fields;
 }
 
 -- the entry of a stanza of an index unpacked where there was none of its name
 abbrev pub new_entry : IndexStanza → FileRecord
 new_entry indexed = record {
-  found = unpacked_with indexed.listed None;
+  status = unpacked_with indexed.listed None;
   stanza = unpacked_stanza (unpacked_with indexed.listed None) indexed.fields [];
 }
 
 -- the entries with each one whose record passes the test changed
 abbrev pub changed_entries : (Record → Bool) → (FileRecord → FileRecord) → List FileRecord → List FileRecord
-changed_entries test change entries = map (λ entry. if test entry.found then change entry else entry) entries
+changed_entries test change entries = map (λ entry. if test entry.status then change entry else entry) entries
 
 -- the entries after an unpacking
 abbrev pub entries_after_unpack : IndexStanza → List FileRecord → List FileRecord
@@ -90,11 +90,11 @@ entries_after_unpack indexed entries =
 -- the entries after the step, where an unpacked package is that of this stanza of an index
 abbrev pub entries_after : Option IndexStanza → Step → List FileRecord → List FileRecord
 entries_after indexed (step.Unpack name version) entries =
-    option_map_or (λ found. entries_after_unpack found entries) indexed entries
+    option_map_or (λ stanza. entries_after_unpack stanza entries) indexed entries
 entries_after indexed (step.Deconfigure name) entries = changed_entries (is_named name) (touched_entry deconfigured) entries
 entries_after indexed (step.Configure names) entries = changed_entries (is_among names) (touched_entry configured) entries
 entries_after indexed (step.Remove name) entries = changed_entries (is_named name) (touched_entry removed) entries
-entries_after indexed (step.Purge name) entries = filter (λ entry. not (is_named name entry.found)) entries
+entries_after indexed (step.Purge name) entries = filter (λ entry. not (is_named name entry.status)) entries
 
 -- what an action writes agrees with what it leaves
 abbrev pub WrittenAsLeft : Type 0

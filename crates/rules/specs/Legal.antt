@@ -57,7 +57,7 @@ remove_rules = rule.WrongState ∷ rule.Held ∷ rule.Essential ∷ rule.NeededB
 
 -- what each asks of a removal of the name
 abbrev pub RemoveAsks : List Record → List ℕ → Rule → Type 0
-RemoveAsks db name rule.WrongState = HasRecord (λ found. IsPresent found × HasSoundFlag found) name db
+RemoveAsks db name rule.WrongState = HasRecord (λ entry. IsPresent entry × HasSoundFlag entry) name db
 RemoveAsks db name rule.Held = IsNotHeld db name
 RemoveAsks db name rule.Essential = ¬ HasRecord IsEssential name db
 RemoveAsks db name rule.NeededBy = IsNotNeeded db name

@@ -26,15 +26,15 @@ AllowedWhereNoneFails = (u : Universe) (db : List Record) (step : Step)
 
 -- the step configures, deconfigures or removes the record's package, as a test
 abbrev pub is_acted_on : Step → Record → Bool
-is_acted_on (step.Unpack name version) found = false
-is_acted_on (step.Deconfigure name) found = is_named name found
-is_acted_on (step.Configure names) found = is_among names found
-is_acted_on (step.Remove name) found = is_named name found
-is_acted_on (step.Purge name) found = false
+is_acted_on (step.Unpack name version) entry = false
+is_acted_on (step.Deconfigure name) entry = is_named name entry
+is_acted_on (step.Configure names) entry = is_among names entry
+is_acted_on (step.Remove name) entry = is_named name entry
+is_acted_on (step.Purge name) entry = false
 
 -- what an allowed step configures, deconfigures or removes is present
 unfoldable pub ActsOnPresent : Step → List Record → Type 0
-ActsOnPresent step db = All (λ found. is_acted_on step found ≡ true → IsPresent found) db
+ActsOnPresent step db = All (λ entry. is_acted_on step entry ≡ true → IsPresent entry) db
 
 -- what an allowed step configures, deconfigures or removes is present, where names are distinct
 abbrev pub AllowedActsOnPresent : Type 0

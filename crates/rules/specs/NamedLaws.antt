@@ -15,11 +15,11 @@ pub bytes_eq-same : (xs ys : List ℕ) → xs ≡ ys → bytes_eq xs ys ≡ true
 bytes_eq-same xs ys same = (bytes_eq-Decides xs ys).1 same
 
 -- the record is among the names where they contain its name
-pub is_among-contains : (names : List (List ℕ)) (found : Record) → Contains names found.name → is_among names found ≡ true
-is_among-contains names found within =
-    list_any-from_contains (λ name. is_named name found) names found.name within (bytes_eq-same found.name found.name refl)
+pub is_among-contains : (names : List (List ℕ)) (entry : Record) → Contains names entry.name → is_among names entry ≡ true
+is_among-contains names entry within =
+    list_any-from_contains (λ name. is_named name entry) names entry.name within (bytes_eq-same entry.name entry.name refl)
 
-pub contains-is_among : (names : List (List ℕ)) (found : Record) → is_among names found ≡ true → Contains names found.name
-contains-is_among names found passes = Any-elim (λ name. is_named name found ≡ true) names (Contains names found.name)
-    (λ name within holds. subst (Contains names) (sym (bytes_eq-true found.name name holds)) within)
-    (Any-from_list_any (λ name. is_named name found) names passes)
+pub contains-is_among : (names : List (List ℕ)) (entry : Record) → is_among names entry ≡ true → Contains names entry.name
+contains-is_among names entry passes = Any-elim (λ name. is_named name entry ≡ true) names (Contains names entry.name)
+    (λ name within holds. subst (Contains names) (sym (bytes_eq-true entry.name name holds)) within)
+    (Any-from_list_any (λ name. is_named name entry) names passes)

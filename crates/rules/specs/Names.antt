@@ -8,11 +8,11 @@ use Rattle.rules.specs.Universe.{Universe}
 
 -- the name of each record is a package name
 abbrev pub HasNames : List Record → Type 0
-HasNames db = All (λ found. IsTrue (is_name found.name)) db
+HasNames db = All (λ entry. IsTrue (is_name entry.name)) db
 
 -- the name of each stanza's package is a package name
 abbrev pub HasListedNames : List IndexPackage → Type 0
-HasListedNames listed = All (λ found. IsTrue (is_name found.pkg.name)) listed
+HasListedNames listed = All (λ stanza. IsTrue (is_name stanza.pkg.name)) listed
 
 -- the name of each pair is a package name
 abbrev pub HasPairNames : Universe → Type 0

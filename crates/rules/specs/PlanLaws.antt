@@ -19,13 +19,13 @@ unfoldable pub IsEssentialIn : Universe → List ℕ → Type 0
 IsEssentialIn u name = Any (λ start. (start.name ≡ name) × IsTrue start.is_essential × IsTrue start.is_present) u.starts
 
 -- the installed package has what it needs and is at peace with every other that is installed
-pub record IsSatisfiedIn (db : List Record) (found : Record) : Type 0 where
-  pub pre_depends : MeetsClauses (installed_of db) found.relations.pre_depends
-  pub depends : MeetsClauses (installed_of db) found.relations.depends
-  pub conflicts : (other : Record) → Contains db other → IsInstalled other → other.name ≢ found.name
-      → ¬ ConflictsWith (pkg_of found) (pkg_of other)
-  pub breaks : (other : Record) → Contains db other → IsInstalled other → other.name ≢ found.name
-      → ¬ BreaksOther (pkg_of found) (pkg_of other)
+pub record IsSatisfiedIn (db : List Record) (entry : Record) : Type 0 where
+  pub pre_depends : MeetsClauses (installed_of db) entry.relations.pre_depends
+  pub depends : MeetsClauses (installed_of db) entry.relations.depends
+  pub conflicts : (other : Record) → Contains db other → IsInstalled other → other.name ≢ entry.name
+      → ¬ ConflictsWith (pkg_of entry) (pkg_of other)
+  pub breaks : (other : Record) → Contains db other → IsInstalled other → other.name ≢ entry.name
+      → ¬ BreaksOther (pkg_of entry) (pkg_of other)
 
 -- at this end every goal is met and what is to be purged is gone, every installed package is an admitted pair, every held name that stood has its version, every essential name that was
 -- present has a package, and every installed package is satisfied
@@ -35,8 +35,8 @@ pub record IsAsAsked (u : Universe) (db : List Record) : Type 0 where
   pub admitted : IsAdmittedIn u (installed_of db)
   pub held : (name version : List ℕ) → HoldsOn u name version → HasVersion name version (installed_of db)
   pub essential : (name : List ℕ) → IsEssentialIn u name → HasMember name (installed_of db)
-  pub satisfied : (found : Record) → Contains db found → IsInstalled found → IsSatisfiedIn db found
-  pub finished : (found : Record) → Contains db found → ¬ IsUnfinished found
+  pub satisfied : (entry : Record) → Contains db entry → IsInstalled entry → IsSatisfiedIn db entry
+  pub finished : (entry : Record) → Contains db entry → ¬ IsUnfinished entry
 
 -- what a good plan promises: each step is allowed in the database before it, the database is quiet after
 -- each beginning of the steps, and the end is as asked

@@ -152,7 +152,7 @@ HasPriority inputs name version priority =
 -- the version is lower than the one of the name that stands
 unfoldable pub IsDowngrade : Inputs → List ℕ → List ℕ → Type 0
 IsDowngrade inputs name version =
-    HasRecord (λ found. Stands found × (version_cmp version found.version ≡ Less)) name inputs.start
+    HasRecord (λ entry. Stands entry × (version_cmp version entry.version ≡ Less)) name inputs.start
 
 -- the version may be chosen by itself: its priority is above 0, and it is no downgrade with a priority below 1000
 unfoldable pub IsEligible : Inputs → List ℕ → List ℕ → ℤ → Type 0

@@ -43,14 +43,14 @@ pub record StopsAt (u : Universe) (start : List Record) (steps : List Step) (num
 abbrev pub IsPurged : List Record → Goal → Type 0
 IsPurged db (goal.Install name restriction) = ⊤
 IsPurged db (goal.Remove name) = ⊤
-IsPurged db (goal.Purge name) = All (λ found. found.name ≡ name → IsTrue (is_not_installed_state found.state)) db
+IsPurged db (goal.Purge name) = All (λ entry. entry.name ≡ name → IsTrue (is_not_installed_state entry.state)) db
 IsPurged db (goal.Upgrade name) = ⊤
 IsPurged db goal.UpgradeAll = ⊤
 IsPurged db goal.NoRemove = ⊤
 
 -- a good end: nothing is unfinished, the installed packages are fitting, and what is to be purged is gone
 pub record IsGoodEnd (u : Universe) (db : List Record) : Type 0 where
-  pub finished : All (λ found. ¬ IsUnfinished found) db
+  pub finished : All (λ entry. ¬ IsUnfinished entry) db
   pub fitting : IsFitting u (installed_of db)
   pub purged : All (IsPurged db) u.goals
 
@@ -63,7 +63,7 @@ pub record IsGoodPlan (u : Universe) (start : List Record) (steps : List Step) :
 
 -- the installed record isn't content with the installed packages
 unfoldable pub LacksARelation : List Record → Record → Type 0
-LacksARelation db found = IsInstalled found × ¬ HasItsRelations (installed_of db) (pkg_of found)
+LacksARelation db entry = IsInstalled entry × ¬ HasItsRelations (installed_of db) (pkg_of entry)
 
 -- the goal of this number, counted from 1, isn't fulfilled
 unfoldable pub IsUnfulfilled : Universe → List Record → ℕ → Type 0
@@ -110,7 +110,7 @@ pub record IsFirstAgainst (u : Universe) (db : List Record) (first : Reason) : T
 
 -- nothing is against the end: no name is unfinished, each installed package is content, and each essential name and each goal is as it should be
 pub record HasNothingAgainst (u : Universe) (db : List Record) : Type 0 where
-  pub finished : All (λ found. ¬ IsUnfinished found) db
-  pub content : All (λ found. IsInstalled found → HasItsRelations (installed_of db) (pkg_of found)) db
+  pub finished : All (λ entry. ¬ IsUnfinished entry) db
+  pub content : All (λ entry. IsInstalled entry → HasItsRelations (installed_of db) (pkg_of entry)) db
   pub essential : All (KeepsEssential (installed_of db)) u.starts
   pub goals : All (λ asked. Fulfils u (installed_of db) asked × IsPurged db asked) u.goals

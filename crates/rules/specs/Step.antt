@@ -67,15 +67,15 @@ unpacked_over listed old = unpacked_with listed (kept_config_version old)
 
 -- the record has the name, as a test
 abbrev pub is_named : List ℕ → Record → Bool
-is_named name found = bytes_eq found.name name
+is_named name entry = bytes_eq entry.name name
 
 -- the record has one of the names, as a test
 abbrev pub is_among : List (List ℕ) → Record → Bool
-is_among names found = list_any (λ name. is_named name found) names
+is_among names entry = list_any (λ name. is_named name entry) names
 
 -- the database with each record that passes the test changed
 abbrev pub changed : (Record → Bool) → (Record → Record) → List Record → List Record
-changed test change db = map (λ found. if test found then change found else found) db
+changed test change db = map (λ entry. if test entry then change entry else entry) db
 
 -- the database after the unpacking: the record in the place of the old one of its name, or last where there is none
 abbrev pub after_unpack : IndexPackage → List Record → List Record
@@ -87,8 +87,8 @@ after_unpack listed db =
 -- the database after the step, where an unpacked package is this one of an index
 -- an unpacking without a stanza leaves all as it was
 abbrev pub result_of : Option IndexPackage → Step → List Record → List Record
-result_of listed (Unpack name version) db = option_map_or (λ found. after_unpack found db) listed db
+result_of listed (Unpack name version) db = option_map_or (λ listed. after_unpack listed db) listed db
 result_of listed (Deconfigure name) db = changed (is_named name) deconfigured db
 result_of listed (Configure names) db = changed (is_among names) configured db
 result_of listed (Remove name) db = changed (is_named name) removed db
-result_of listed (Purge name) db = filter (λ found. not (is_named name found)) db
+result_of listed (Purge name) db = filter (λ entry. not (is_named name entry)) db

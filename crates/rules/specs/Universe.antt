@@ -47,12 +47,12 @@ pub record Universe : Type 0 where
 
 -- the facts of a record at the start
 abbrev pub start_of : Record → Start
-start_of found = record {
-  name = found.name;
-  is_present = is_present_state found.state;
-  standing = if stands found then Some found.version else None;
-  is_held = is_hold found.want;
-  is_essential = found.is_essential;
+start_of entry = record {
+  name = entry.name;
+  is_present = is_present_state entry.state;
+  standing = if stands entry then Some entry.version else None;
+  is_held = is_hold entry.want;
+  is_essential = entry.is_essential;
 }
 
 -- the facts of the start, in file order
@@ -76,7 +76,7 @@ NamesExactly name version goal.NoRemove = ⊥
 
 -- the version is the one of the name that stands
 unfoldable pub StandsAs : List Record → List ℕ → List ℕ → Type 0
-StandsAs db name version = HasRecord (λ found. Stands found × SameVersion found.version version) name db
+StandsAs db name version = HasRecord (λ entry. Stands entry × SameVersion entry.version version) name db
 
 -- the version is the candidate of the name, with some priority
 abbrev pub IsACandidate : Inputs → List ℕ → List ℕ → Type 0

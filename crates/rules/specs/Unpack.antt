@@ -9,18 +9,18 @@ use Rattle.rules.specs.Step.{IndexPackage, last_configured}
 -- the record has the atom's name, and both its version and the one configured last meet the restriction, or
 -- something that it provides fits
 unfoldable pub FitsThenAndNow : Record → Atom → List ℕ → Type 0
-FitsThenAndNow found atom config_version =
-    ((found.name ≡ atom.name) × Meets found.version atom.restriction × Meets config_version atom.restriction)
-    ⊎ FitsByProvides (pkg_of found) atom
+FitsThenAndNow entry atom config_version =
+    ((entry.name ≡ atom.name) × Meets entry.version atom.restriction × Meets config_version atom.restriction)
+    ⊎ FitsByProvides (pkg_of entry) atom
 
 -- the record is unpacked, half-configured or in a trigger state, was configured before, and fits the atom
 unfoldable pub FitsFromBefore : Record → Atom → Type 0
-FitsFromBefore found atom = IsUnconfigured found × MatchOption (last_configured found) ⊥ (FitsThenAndNow found atom)
+FitsFromBefore entry atom = IsUnconfigured entry × MatchOption (last_configured entry) ⊥ (FitsThenAndNow entry atom)
 
 -- the record satisfies the atom of a Pre-Depends: installed and matching, or fitting from before (Policy 7.2)
 unfoldable pub SatisfiesAtom : Record → Atom → Type 0
-SatisfiesAtom found atom = (atom.foreign ≡ false)
-    × ((IsInstalled found × Matches (pkg_of found) atom) ⊎ FitsFromBefore found atom)
+SatisfiesAtom entry atom = (atom.foreign ≡ false)
+    × ((IsInstalled entry × Matches (pkg_of entry) atom) ⊎ FitsFromBefore entry atom)
 
 -- a record of another name satisfies an atom of the clause
 unfoldable pub IsSatisfied : List Record → List ℕ → List Atom → Type 0
@@ -44,4 +44,4 @@ BreaksNone db pkg = ForOthers (λ other. IsInstalled other → ¬ BreaksOther pk
 
 -- what is to be unpacked, if it is there, has the property
 abbrev pub OnListed : (Pkg → Type 0) → Option IndexPackage → Type 0
-OnListed P listed = MatchOption listed ⊤ (λ found. P found.pkg)
+OnListed P listed = MatchOption listed ⊤ (λ listed. P listed.pkg)

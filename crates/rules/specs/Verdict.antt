@@ -25,7 +25,7 @@ HasPair u name version = Any (λ pair. IsOf name version pair.pkg) u.pairs
 pub record IsBuiltOn (start : List Record) (u : Universe) : Type 0 where
   pub distinct : HasDistinctNames start
   pub starts : u.starts ≡ starts_of start
-  pub standing : All (λ found. Stands found → HasPair u found.name found.version) start
+  pub standing : All (λ entry. Stands entry → HasPair u entry.name entry.version) start
   pub listed : All (λ pair. MatchOption pair.listed ⊤ (λ listed. IsOf pair.pkg.name pair.pkg.version listed.pkg)) u.pairs
 
 -- the universe of the inputs is built on their start
@@ -39,5 +39,5 @@ GoodWhereNothingIsAgainst = (u : Universe) (start finish : List Record) (steps :
 
 -- a plan that is good has no other verdict than yes
 abbrev pub GoodPlanHasYes : Type 0
-GoodPlanHasYes = (u : Universe) (start : List Record) (steps : List Step) (found : Verdict) → IsGoodPlan u start steps
-    → IsVerdict u start steps found → found ≡ verdict.Yes
+GoodPlanHasYes = (u : Universe) (start : List Record) (steps : List Step) (answer : Verdict) → IsGoodPlan u start steps
+    → IsVerdict u start steps answer → answer ≡ verdict.Yes

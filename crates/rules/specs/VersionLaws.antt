@@ -40,7 +40,7 @@ pub record IsFirstDifference (a b : List ℕ) (i : ℕ) : Type 0 where
 pub record FirstDifferenceDecides (a b : List ℕ) : Type 0 where
   pub equal : (part_cmp a b ≡ Equal) ↔ ((i : ℕ) → order_at a b i ≡ Equal)
   pub decides : (i : ℕ) → IsFirstDifference a b i → part_cmp a b ≡ order_at a b i
-  pub found : part_cmp a b ≢ Equal → (i : ℕ) × IsFirstDifference a b i
+  pub difference : part_cmp a b ≢ Equal → (i : ℕ) × IsFirstDifference a b i
 
 -- the longest front without digits
 abbrev pub front_word : List ℕ → List ℕ

@@ -106,8 +106,8 @@ pub first_difference_decides : (a b : List ℕ) → FirstDifferenceDecides a b
 first_difference_decides a b = record {
   equal = (
     λ e i. all_agree i (pieces_of a) (pieces_of b) e,
-    λ agree. equal_or_not (part_cmp a b) (λ d. let found = some_differ (pieces_of a) (pieces_of b) d in absurd (found.differ (agree found.at))),
+    λ agree. equal_or_not (part_cmp a b) (λ d. let difference = some_differ (pieces_of a) (pieces_of b) d in absurd (difference.differ (agree difference.at))),
   );
   decides = λ i first. first_decides i (pieces_of a) (pieces_of b) first.agree first.differ;
-  found = λ d. let found = some_differ (pieces_of a) (pieces_of b) d in (found.at, record { agree = found.agree; differ = found.differ });
+  difference = λ d. let difference = some_differ (pieces_of a) (pieces_of b) d in (difference.at, record { agree = difference.agree; differ = difference.differ });
 }

@@ -22,8 +22,8 @@ none_passes p (x ∷ xs) k d past within = by (p x) k refl past within (λ place
 pub two_by_first : (clause : List ℤ) (at : ℕ) (first : ℤ) → position is_positive clause ≡ Some at → first ≡ get_or clause at (pos 0)
     → Any (IsOtherThan first) clause ↔ HasTwo clause
 unfolding HasTwo
-two_by_first clause at first is there = let found = position-Some is_positive clause at (pos 0) is in (
-  λ others. (at, first, found.0, get_or_default clause at first (pos 0) found.0 ∙ sym there, (subst (λ literal. IsTrue (is_positive literal)) (sym there) found.1, others)),
+two_by_first clause at first is there = let facts = position-Some is_positive clause at (pos 0) is in (
+  λ others. (at, first, facts.0, get_or_default clause at first (pos 0) facts.0 ∙ sym there, (subst (λ literal. IsTrue (is_positive literal)) (sym there) facts.1, others)),
   λ (k, one, below, here, (selected, others)). by (int_eq one first) one refl (k, below, here) selected others,
 )
   where

@@ -5,8 +5,8 @@ use Rattle.std.specs.List.{All, AllPairs, Any}
 use Rattle.clauses.specs.Clause.{MakesAllTrue}
 use Rattle.clauses.specs.Clauses.{Clauses}
 use Rattle.search.specs.Choice.{HasTwo}
-use Rattle.search.specs.declared.found.Found.{Found}
-use Rattle.search.specs.declared.found.Found.TheVariants.{Selection, Refutation, Limit}
+use Rattle.search.specs.declared.answer.SearchAnswer.{SearchAnswer}
+use Rattle.search.specs.declared.answer.SearchAnswer.TheVariants.{Selection, Refutation, Limit}
 
 -- numbers as a selection has them: ascending, from 1 to the greatest
 abbrev pub IsSelection : ℕ → List ℕ → Type 0
@@ -15,7 +15,7 @@ IsSelection greatest numbers = AllPairs (λ earlier later. earlier < later) numb
 
 -- a selection makes every clause true, and a limit is the one handed in and comes only where some clause says of
 -- two numbers that one is selected
-abbrev pub IsAnswer : Clauses → ℕ → Found → Type 0
+abbrev pub IsAnswer : Clauses → ℕ → SearchAnswer → Type 0
 IsAnswer clauses limit (Selection numbers) = IsSelection clauses.numbers numbers.items
     × MakesAllTrue numbers.items clauses.clauses
 IsAnswer clauses limit (Refutation refutation) = ⊤

@@ -1,13 +1,13 @@
 // The best set in hand. The first set is what the wishes in their order lead to; then each wish that it loses is tried
 // once as the very first, and the better set is kept with its order. Fewer lost wishes are better, and of as many, fewer
-// selected numbers that aren't the best of a wish. What is found here is tested once more in `found`.
+// selected numbers that aren't the best of a wish. What is found here is tested once more in `answer`.
 
 use crate::run::{Ended, refute, run};
 use crate::start::start;
-use crate::trim::Refutation;
+use crate::trim::Derivation;
 use clauses::Clauses;
 use search_state::table::{at, put};
-use search_state::{State, Trail, may_leave_out};
+use search_state::{SearchState, Trail, may_leave_out};
 use std::alloc::{AllocError, Global};
 
 /// Conflicts that are allowed once a set is in hand, in all.
@@ -19,7 +19,7 @@ const TRIES: u32 = 64;
 #[derive(Drop)]
 pub(crate) enum Outcome {
     Set(Vec<bool>),
-    Refuted(Refutation),
+    Refuted(Derivation),
     Spent,
 }
 
@@ -40,7 +40,7 @@ impl Best {
 // The set where all that is undecided is left out.
 fn set_of(alloc: Global, given: &Clauses, trail: &Trail) -> Result<Vec<bool>, AllocError> {
     (0..(given.numbers() as usize).saturating_add(1))
-        .map(|number| trail.selected(number) == Some(true))
+        .map(|number| trail.assignment_of(number) == Some(true))
         .collect(alloc)
 }
 
@@ -71,7 +71,7 @@ fn changed_by(alloc: Global, given: &Clauses, set: &Vec<bool>) -> Result<usize, 
 }
 
 // The set at the end of a run, with its cost.
-fn best_of(alloc: Global, state: &State<'_>) -> Result<Best, AllocError> {
+fn best_of(alloc: Global, state: &SearchState<'_>) -> Result<Best, AllocError> {
     let given = state.store.given();
     let set = set_of(alloc, given, &state.trail)?;
     let lost = lost_by(given, &set);
@@ -80,30 +80,30 @@ fn best_of(alloc: Global, state: &State<'_>) -> Result<Best, AllocError> {
 }
 
 // Whether a wish is worth a try: the set loses it, it wasn't tried, and it isn't false before all decisions.
-fn is_worth(state: &State<'_>, set: &Vec<bool>, tried: &Vec<bool>, wish: usize) -> bool {
+fn is_worth(state: &SearchState<'_>, set: &Vec<bool>, tried: &Vec<bool>, wish: usize) -> bool {
     !at(tried, wish, true)
         && loses(set, state.store.given().wish(wish))
         && state.trail.value(state.agenda.literal_of(wish)) != Some(false)
 }
 
 // The place in the order of the first wish that is worth a try.
-fn next_try(state: &State<'_>, set: &Vec<bool>, tried: &Vec<bool>) -> Option<usize> {
+fn next_try(state: &SearchState<'_>, set: &Vec<bool>, tried: &Vec<bool>) -> Option<usize> {
     (0..state.agenda.len()).find(|place| is_worth(state, set, tried, state.agenda.wish_at(*place)))
 }
 
 // Runs with the wish at a place in front, and answers the set if it is better than the best one.
 fn attempt(
     alloc: Global,
-    state: &mut State<'_>,
+    state: &mut SearchState<'_>,
     left: &mut u32,
     place: usize,
     best: &Best,
 ) -> Result<Option<Best>, AllocError> {
     state.agenda.put_in_front(place);
     if let Ended::Set = run(alloc, state, left)? {
-        let found = best_of(alloc, state)?;
-        if found.is_better(best) {
-            return Ok(Some(found));
+        let candidate = best_of(alloc, state)?;
+        if candidate.is_better(best) {
+            return Ok(Some(candidate));
         }
     }
     state.agenda.put_back(place);
@@ -111,7 +111,11 @@ fn attempt(
 }
 
 // The best set, from the one at the end of a first run on.
-fn improve(alloc: Global, state: &mut State<'_>, mut left: u32) -> Result<Vec<bool>, AllocError> {
+fn improve(
+    alloc: Global,
+    state: &mut SearchState<'_>,
+    mut left: u32,
+) -> Result<Vec<bool>, AllocError> {
     let mut best = best_of(alloc, state)?;
     let mut tried = vec![in alloc; false; state.agenda.len()]?;
     for _ in 0..TRIES {
@@ -136,7 +140,7 @@ fn fall_back(hand: Option<Vec<bool>>, otherwise: Outcome) -> Outcome {
 }
 
 // The set where nothing is decided, if it makes every clause true.
-fn in_hand(alloc: Global, state: &State<'_>) -> Result<Option<Vec<bool>>, AllocError> {
+fn in_hand(alloc: Global, state: &SearchState<'_>) -> Result<Option<Vec<bool>>, AllocError> {
     if may_leave_out(&state.store, &state.trail) {
         let set = set_of(alloc, state.store.given(), &state.trail)?;
         Ok(Some(set))
@@ -147,7 +151,7 @@ fn in_hand(alloc: Global, state: &State<'_>) -> Result<Option<Vec<bool>>, AllocE
 
 // From the state before the first decision on. Once a set is in hand, conflicts no longer count against the limit: else
 // a low limit would answer a set that leaves out all that isn't forced.
-fn decide(alloc: Global, state: &mut State<'_>, limit: u32) -> Result<Outcome, AllocError> {
+fn decide(alloc: Global, state: &mut SearchState<'_>, limit: u32) -> Result<Outcome, AllocError> {
     let hand = in_hand(alloc, state)?;
     let mut left = if hand.is_some() { BUDGET } else { limit };
     match run(alloc, state, &mut left)? {
@@ -161,7 +165,7 @@ fn decide(alloc: Global, state: &mut State<'_>, limit: u32) -> Result<Outcome, A
 }
 
 // The number of a clause that is false before all decisions, if there is one.
-fn first_conflict(state: &mut State<'_>, conflict: Option<usize>) -> Option<usize> {
+fn first_conflict(state: &mut SearchState<'_>, conflict: Option<usize>) -> Option<usize> {
     match conflict {
         Some(_) => conflict,
         None => state.propagate(),

@@ -36,7 +36,8 @@ pub(crate) fn makes_all_true(set: &Vec<bool>, given: &Clauses) -> bool
 
 /// Whether the set has a place for each of the numbers, and doesn't hold 0.
 pub(crate) fn fits(set: &Vec<bool>, given: &Clauses) -> bool
-    ensures fits { IsTrue result ↔ ((length set.now.items ≡ given.now.numbers + 1) × (holds set.now.items 0 ≡ false)) }
+    ensures fits { IsTrue result
+        ↔ ((length set.now.items ≡ given.now.numbers + 1) × (holds set.now.items 0 ≡ false)) }
     ensures few { IsTrue result → length set.now.items ≤ 2 ^ 32 }
 {
     set.as_slice().len() == given.numbers() as usize + 1 && !at(set, 0, false)

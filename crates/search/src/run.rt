@@ -1,7 +1,7 @@
 // Running on from the state at hand to a set, a refutation or the end of what is allowed.
 
-use crate::trim::{Refutation, refutation_of};
-use search_state::State;
+use crate::trim::{Derivation, refutation_of};
+use search_state::SearchState;
 use std::alloc::{AllocError, Global};
 
 /// How a run ended: with a set once all that is undecided is left out, with a refutation, or with more conflicts than
@@ -9,12 +9,12 @@ use std::alloc::{AllocError, Global};
 #[derive(Drop)]
 pub(crate) enum Ended {
     Set,
-    Refuted(Refutation),
+    Refuted(Derivation),
     Spent,
 }
 
 // Propagates and decides until a clause is false; none where nothing is left to be decided.
-fn next_conflict(state: &mut State<'_>) -> Result<Option<usize>, AllocError> {
+fn next_conflict(state: &mut SearchState<'_>) -> Result<Option<usize>, AllocError> {
     for _ in 0..state.trail.room() {
         let conflict = state.propagate();
         if conflict.is_some() {
@@ -30,9 +30,9 @@ fn next_conflict(state: &mut State<'_>) -> Result<Option<usize>, AllocError> {
 /// The refutation by a clause that is false at level 0. An empty clause needs no line.
 pub(crate) fn refute(
     alloc: Global,
-    state: &mut State<'_>,
+    state: &mut SearchState<'_>,
     conflict: usize,
-) -> Result<Refutation, AllocError> {
+) -> Result<Derivation, AllocError> {
     if state.store.clause(conflict).is_empty() {
         return refutation_of(alloc, &state.store, conflict);
     }
@@ -44,7 +44,7 @@ pub(crate) fn refute(
 // What comes of a conflict; none where the run goes on.
 fn after_conflict(
     alloc: Global,
-    state: &mut State<'_>,
+    state: &mut SearchState<'_>,
     conflict: usize,
     left: &mut u32,
 ) -> Result<Option<Ended>, AllocError> {
@@ -64,7 +64,7 @@ fn after_conflict(
 /// Runs on, with as many conflicts above level 0 as are left.
 pub(crate) fn run(
     alloc: Global,
-    state: &mut State<'_>,
+    state: &mut SearchState<'_>,
     left: &mut u32,
 ) -> Result<Ended, AllocError> {
     for _ in 0..=*left {

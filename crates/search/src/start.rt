@@ -2,8 +2,8 @@
 // or more, and what clauses of one literal make true.
 
 use clauses::Clauses;
-use search_state::literal::{negated, selects};
-use search_state::{Agenda, State, Store, Trail, Watches};
+use search_state::literal::{negation, selects};
+use search_state::{Agenda, SearchState, Store, Trail, Watches};
 use std::alloc::{AllocError, Global};
 
 // The literal that a wish decides: its number where it has one alone, and else a number of its own, which no clause
@@ -23,7 +23,7 @@ fn literal_of(given: &Clauses, wish: usize) -> i32 {
 
 // Where the wish's own number is selected, one of its numbers is.
 fn add_clause(store: &mut Store<'_>, wish: usize, literal: i32) -> Result<(), AllocError> {
-    store.push(negated(literal))?;
+    store.push(negation(literal))?;
     for number in store.given().wish(wish) {
         store.push(selects(*number as usize).unwrap_or(0))?;
     }
@@ -31,7 +31,7 @@ fn add_clause(store: &mut Store<'_>, wish: usize, literal: i32) -> Result<(), Al
 }
 
 // The literals that the wishes decide; their clauses are added.
-fn wished(alloc: Global, store: &mut Store<'_>) -> Result<Vec<i32>, AllocError> {
+fn add_wishes(alloc: Global, store: &mut Store<'_>) -> Result<Vec<i32>, AllocError> {
     let mut literals = Vec::new(alloc);
     let given = store.given();
     for wish in 0..given.wishes() {
@@ -47,7 +47,7 @@ fn wished(alloc: Global, store: &mut Store<'_>) -> Result<Vec<i32>, AllocError> 
 // Whether one of the other literals of a clause is the negation of its first, so that it is always true: as where a
 // package meets its own clause.
 fn meets_itself(first: i32, others: &[i32]) -> bool {
-    others.contains(&negated(first))
+    others.contains(&negation(first))
 }
 
 // The first literal that isn't this one, which may stand in a clause many times.
@@ -117,16 +117,16 @@ fn take_up_all(
 pub(crate) fn start<'c>(
     alloc: Global,
     given: &'c Clauses,
-) -> Result<(State<'c>, Option<usize>), AllocError> {
+) -> Result<(SearchState<'c>, Option<usize>), AllocError> {
     let mut store = Store::new(alloc, given);
-    let literals = wished(alloc, &mut store)?;
+    let literals = add_wishes(alloc, &mut store)?;
     let numbers = (given.numbers() as usize).saturating_add(literals.len());
     let mut trail = Trail::new(alloc, numbers)?;
     let mut watches = Watches::new(alloc, numbers)?;
     let conflict = take_up_all(&store, &mut trail, &mut watches)?;
     let agenda = Agenda::new(alloc, literals)?;
     Ok((
-        State {
+        SearchState {
             store,
             trail,
             watches,

@@ -7,7 +7,7 @@ use std::alloc::{AllocError, Global};
 /// A derived clause, and the numbers of the clauses by which it follows: those of the premises from 1 on, in their
 /// order, and behind them those of the lines.
 #[derive(Drop)]
-pub struct Line {
+pub struct DerivedClause {
     /// The literals.
     pub literals: Vec<i32>,
     /// The numbers.
@@ -17,17 +17,17 @@ pub struct Line {
 /// Clauses given, by their places counted from 0, and what follows from them up to the empty clause. Without lines the
 /// last premise is the empty clause. No contract says that it refutes: it is for a checker to judge.
 #[derive(Drop)]
-pub struct Refutation {
+pub struct Derivation {
     /// The places of the clauses given, ascending.
     pub premises: Vec<usize>,
     /// The derived lines; the last one is the empty clause.
-    pub lines: Vec<Line>,
+    pub lines: Vec<DerivedClause>,
 }
 
-impl Refutation {
+impl Derivation {
     /// No premises and no lines.
     pub(crate) fn new(alloc: Global) -> Self {
-        Refutation {
+        Derivation {
             premises: Vec::new(alloc),
             lines: Vec::new(alloc),
         }
@@ -55,7 +55,7 @@ fn needed_by(alloc: Global, store: &Store<'_>, last: usize) -> Result<Vec<bool>,
 // What is written so far, and under which number each clause is.
 #[derive(Drop)]
 struct Writing {
-    refutation: Refutation,
+    refutation: Derivation,
     numbers: Vec<u32>,
     count: u32,
 }
@@ -90,7 +90,9 @@ impl Writing {
         let literals = store.clause(clause).to_vec(alloc)?;
         let hints = self.hints_of(alloc, store.hints(clause))?;
         self.number(clause);
-        self.refutation.lines.push(Line { literals, hints })?;
+        self.refutation
+            .lines
+            .push(DerivedClause { literals, hints })?;
         Ok(())
     }
 
@@ -110,10 +112,10 @@ pub(crate) fn refutation_of(
     alloc: Global,
     store: &Store<'_>,
     last: usize,
-) -> Result<Refutation, AllocError> {
+) -> Result<Derivation, AllocError> {
     let needed = needed_by(alloc, store, last)?;
     let mut writing = Writing {
-        refutation: Refutation::new(alloc),
+        refutation: Derivation::new(alloc),
         numbers: vec![in alloc; 0; needed.len()]?,
         count: 0,
     };

@@ -14,7 +14,7 @@ use Rattle.refutation.specs.declared.line.Premise.{Premise}
 use Rattle.refutation.specs.declared.line.Premise.TheVariants as premise
 use Rattle.refutation.specs.declared.literal.Literal.{Literal}
 use Rattle.refutation.specs.declared.literal.Literal.TheVariants as literal
-use Rattle.encode.specs.Encoding.{IsClauseOf, signed}
+use Rattle.encode.specs.Encoding.{IsClauseOf, signed_number}
 use Rattle.search_settle.specs.Encoded.{IsGivenBy}
 use Rattle.search_settle.specs.Given.{Given, clause_at, places_without}
 use Rattle.search_settle.specs.Truth.{AreTrue, is_true_of}
@@ -67,59 +67,59 @@ abbrev pub number_of : Literal → ℕ
 number_of (literal.Selected number) = number
 number_of (literal.Unselected number) = number
 
-either : (number other : ℕ) (found : Literal) → 1 ≤ number → 1 ≤ other → IsEitherOut number other found → 1 ≤ number_of found
-either number other found one two (inl is) = subst (λ (l : Literal). 1 ≤ number_of l) (sym is) one
-either number other found one two (inr is) = subst (λ (l : Literal). 1 ≤ number_of l) (sym is) two
+either : (number other : ℕ) (item : Literal) → 1 ≤ number → 1 ≤ other → IsEitherOut number other item → 1 ≤ number_of item
+either number other item one two (inl is) = subst (λ (l : Literal). 1 ≤ number_of l) (sym is) one
+either number other item one two (inr is) = subst (λ (l : Literal). 1 ≤ number_of l) (sym is) two
 
-selects_one : (u : Universe) (P : Pkg → Type 0) (found : Literal) → Selects u P found → 1 ≤ number_of found
+selects_one : (u : Universe) (P : Pkg → Type 0) (item : Literal) → Selects u P item → 1 ≤ number_of item
 selects_one u P (literal.Selected number) has = not_zero u.pairs number has.0 has.1
 selects_one u P (literal.Unselected number) has = absurd has
 
-out_or_selects : (u : Universe) (P : Pkg → Type 0) (number : ℕ) (found : Literal) → 1 ≤ number
-    → (found ≡ literal.Unselected number) ⊎ Selects u P found → 1 ≤ number_of found
-out_or_selects u P number found one (inl is) = subst (λ (l : Literal). 1 ≤ number_of l) (sym is) one
-out_or_selects u P number found one (inr has) = selects_one u P found has
+out_or_selects : (u : Universe) (P : Pkg → Type 0) (number : ℕ) (item : Literal) → 1 ≤ number
+    → (item ≡ literal.Unselected number) ⊎ Selects u P item → 1 ≤ number_of item
+out_or_selects u P number item one (inl is) = subst (λ (l : Literal). 1 ≤ number_of l) (sym is) one
+out_or_selects u P number item one (inr has) = selects_one u P item has
 
 -- what a premise speaks of hasn't the number 0
-pub positive : (u : Universe) (reason : Premise) (found : Literal) → IsPremise u reason → IsInPremise u reason found → 1 ≤ number_of found
-positive u (premise.Same number other) found is within =
-    either number other found (not_zero u.pairs number is.1.0 is.1.1) (not_zero u.pairs other is.1.2.0 is.1.2.1) within
-positive u (premise.PreDepends number clause) found is within =
+pub positive : (u : Universe) (reason : Premise) (item : Literal) → IsPremise u reason → IsInPremise u reason item → 1 ≤ number_of item
+positive u (premise.Same number other) item is within =
+    either number other item (not_zero u.pairs number is.1.0 is.1.1) (not_zero u.pairs other is.1.2.0 is.1.2.1) within
+positive u (premise.PreDepends number clause) item is within =
     out_or_selects u (λ other. PairHas u number (λ pkg. HasAt pkg.relations.pre_depends clause (Rattle.rules.specs.Package.MatchesSome other)))
-    number found (not_zero u.pairs number is.0 is.1) within
-positive u (premise.Depends number clause) found is within =
+    number item (not_zero u.pairs number is.0 is.1) within
+positive u (premise.Depends number clause) item is within =
     out_or_selects u (λ other. PairHas u number (λ pkg. HasAt pkg.relations.depends clause (Rattle.rules.specs.Package.MatchesSome other)))
-    number found (not_zero u.pairs number is.0 is.1) within
-positive u (premise.Conflicts number other) found is within =
-    either number other found (not_zero u.pairs number is.0 is.1) (not_zero u.pairs other is.2.0 is.2.1) within
-positive u (premise.Breaks number other) found is within =
-    either number other found (not_zero u.pairs number is.0 is.1) (not_zero u.pairs other is.2.0 is.2.1) within
-positive u (premise.Goal number) found is within =
-    selects_one u (λ pkg. HasAt u.goals number (λ asked. Rattle.refutation.specs.Premise.IsAskedBy u asked pkg)) found within
-positive u (premise.GoalOn number pair) found is within = said within.0 within.2
+    number item (not_zero u.pairs number is.0 is.1) within
+positive u (premise.Conflicts number other) item is within =
+    either number other item (not_zero u.pairs number is.0 is.1) (not_zero u.pairs other is.2.0 is.2.1) within
+positive u (premise.Breaks number other) item is within =
+    either number other item (not_zero u.pairs number is.0 is.1) (not_zero u.pairs other is.2.0 is.2.1) within
+positive u (premise.Goal number) item is within =
+    selects_one u (λ pkg. HasAt u.goals number (λ asked. Rattle.refutation.specs.Premise.IsAskedBy u asked pkg)) item within
+positive u (premise.GoalOn number pair) item is within = said within.0 within.2
   where
     one : 1 ≤ pair
     one = not_zero u.pairs pair is.2.0 is.2.1
 
-    said : (asked : Rattle.rules.specs.declared.goal.Goal.Goal) → IsSaidBy asked pair found → 1 ≤ number_of found
+    said : (asked : Rattle.rules.specs.declared.goal.Goal.Goal) → IsSaidBy asked pair item → 1 ≤ number_of item
     said (goal.Install name restriction) says = absurd says
     said (goal.Remove name) says = subst (λ (l : Literal). 1 ≤ number_of l) (sym says) one
     said (goal.Purge name) says = subst (λ (l : Literal). 1 ≤ number_of l) (sym says) one
     said (goal.Upgrade name) says = absurd says
     said goal.UpgradeAll says = subst (λ (l : Literal). 1 ≤ number_of l) (sym says) one
     said goal.NoRemove says = absurd says
-positive u (premise.Hold number) found is within = subst (λ (l : Literal). 1 ≤ number_of l) (sym within) (not_zero u.pairs number is.0 is.1)
-positive u (premise.Essential name) found is within = selects_one u (λ pkg. pkg.name ≡ name) found within
-positive u (premise.Keep name) found is within = selects_one u (λ pkg. pkg.name ≡ name) found within
+positive u (premise.Hold number) item is within = subst (λ (l : Literal). 1 ≤ number_of l) (sym within) (not_zero u.pairs number is.0 is.1)
+positive u (premise.Essential name) item is within = selects_one u (λ pkg. pkg.name ≡ name) item within
+positive u (premise.Keep name) item is within = selects_one u (λ pkg. pkg.name ≡ name) item within
 
 -- a literal as a number is true where it is
-signed_true : (selection : ℕ → Bool) (found : Literal) → 1 ≤ number_of found → IsTrueOf selection found → is_true_of selection (signed found) ≡ true
+signed_true : (selection : ℕ → Bool) (item : Literal) → 1 ≤ number_of item → IsTrueOf selection item → is_true_of selection (signed_number item) ≡ true
 signed_true selection (literal.Selected number) one is = is
 signed_true selection (literal.Unselected zero) one is = absurd (omega arith)
 signed_true selection (literal.Unselected (suc below)) one is =
     let e : below + 1 ≡ suc below = omega arith in ap not (ap selection e ∙ is)
 
-true_signed : (selection : ℕ → Bool) (found : Literal) → 1 ≤ number_of found → is_true_of selection (signed found) ≡ true → IsTrueOf selection found
+true_signed : (selection : ℕ → Bool) (item : Literal) → 1 ≤ number_of item → is_true_of selection (signed_number item) ≡ true → IsTrueOf selection item
 true_signed selection (literal.Selected number) one is = is
 true_signed selection (literal.Unselected zero) one is = absurd (omega arith)
 true_signed selection (literal.Unselected (suc below)) one is =
@@ -130,7 +130,7 @@ true_signed selection (literal.Unselected (suc below)) one is =
     at true is = absurd (let e : false ≡ true = is in cc)
 
 -- a literal that selects is signed alone so
-pub selected_signed : (found : Literal) (number : ℕ) → 1 ≤ number_of found → signed found ≡ pos number → found ≡ literal.Selected number
+pub selected_signed : (item : Literal) (number : ℕ) → 1 ≤ number_of item → signed_number item ≡ pos number → item ≡ literal.Selected number
 selected_signed (literal.Selected other) number one is = ap (λ (n : ℕ). literal.Selected n) cc
 selected_signed (literal.Unselected zero) number one is = absurd (omega arith)
 selected_signed (literal.Unselected (suc below)) number one is = absurd (cc)
@@ -156,18 +156,18 @@ module _ (u : Universe) (premises : List Premise) (given : Given) (by : IsGivenB
       (item.0, item.1, by.sound item.0 (found_in premises place item.0 item.1), item.2)
 
   -- a literal of a premise is in its clause
-  pub literal_in : (reason : Premise) (clause : List ℤ) (found : Literal) → IsClauseOf u reason clause → IsInPremise u reason found
-      → Contains clause (signed found)
+  pub literal_in : (reason : Premise) (clause : List ℤ) (item : Literal) → IsClauseOf u reason clause → IsInPremise u reason item
+      → Contains clause (signed_number item)
   unfolding IsClauseOf
-  literal_in reason clause found is within = subst (λ (xs : List ℤ). Contains xs (signed found)) (sym is.2)
-      (Contains-map_intro signed is.0 found ((is.1 found).1 within))
+  literal_in reason clause item is within = subst (λ (xs : List ℤ). Contains xs (signed_number item)) (sym is.2)
+      (Contains-map_intro signed_number is.0 item ((is.1 item).1 within))
 
   -- a literal that selects is one of the premise
   pub selected_in : (reason : Premise) (clause : List ℤ) (number : ℕ) → IsPremise u reason → IsClauseOf u reason clause → Contains clause (pos number)
       → IsInPremise u reason (literal.Selected number)
   unfolding IsClauseOf
   selected_in reason clause number premise is within =
-      let from = Contains-map signed is.0 (pos number) (subst (λ (xs : List ℤ). Contains xs (pos number)) is.2 within) in
+      let from = Contains-map signed_number is.0 (pos number) (subst (λ (xs : List ℤ). Contains xs (pos number)) is.2 within) in
       let has : IsInPremise u reason from.0 = (is.1 from.0).0 from.1 in
       subst (IsInPremise u reason) (selected_signed from.0 number (positive u reason from.0 premise has) from.2) has
 
@@ -178,7 +178,7 @@ module _ (u : Universe) (premises : List Premise) (given : Given) (by : IsGivenB
       let there = clause_of reason is in
       let some : Any (λ literal. is_true_of selection literal ≡ true) (clause_at given there.0) =
       Any-from_list_any (is_true_of selection) (clause_at given there.0) (all there.0 there.2) in
-      let from = Contains-map signed there.3.0 some.1 (subst (λ (xs : List ℤ). Contains xs some.1) there.3.2 (some.0, some.2, some.3)) in
+      let from = Contains-map signed_number there.3.0 some.1 (subst (λ (xs : List ℤ). Contains xs some.1) there.3.2 (some.0, some.2, some.3)) in
       let has : IsInPremise u reason from.0 = (there.3.1 from.0).0 from.1 in
       (from.0, has, true_signed selection from.0 (positive u reason from.0 is has) (ap (is_true_of selection) from.2 ∙ some.4))
 
@@ -187,9 +187,9 @@ module _ (u : Universe) (premises : List Premise) (given : Given) (by : IsGivenB
   unfolding AreTrue
   clauses_true selection all place within =
       let reason = premise_of place within in
-      let found = all reason.0 reason.2 in
-      list_any-from_contains (is_true_of selection) (clause_at given place) (signed found.0) (literal_in reason.0 (clause_at given place) found.0 reason.3 found.1)
-      (signed_true selection found.0 (positive u reason.0 found.0 reason.2 found.1) found.2)
+      let item = all reason.0 reason.2 in
+      list_any-from_contains (is_true_of selection) (clause_at given place) (signed_number item.0) (literal_in reason.0 (clause_at given place) item.0 reason.3 item.1)
+      (signed_true selection item.0 (positive u reason.0 item.0 reason.2 item.1) item.2)
 
   -- a clause in which a number isn't selected is among those without it
   pub without_in : (reason : Premise) (place number : ℕ) → 1 ≤ number → number ≤ given.numbers → place < length given.clauses

@@ -58,20 +58,20 @@ known_more u known new count pair present stood wanted so there p s w isp iss is
   present_long = omega (arith, ap length p, length-append known.present (present ∷ []), so.present_long);
   stood_long = omega (arith, ap length s, length-append known.stood (stood ∷ []), so.stood_long);
   wanted_long = omega (arith, ap length w, length-append known.wanted (wanted ∷ []), so.wanted_long);
-  each = λ place found below at. elim (eqb_tells place count) [
-    | inl same ↦ let e : Some pair ≡ Some found = sym there ∙ ap (slice_get u.pairs) (sym same.1) ∙ at in
-        let f : pair ≡ found = cc in
+  each = λ place other_pair below at. elim (eqb_tells place count) [
+    | inl same ↦ let e : Some pair ≡ Some other_pair = sym there ∙ ap (slice_get u.pairs) (sym same.1) ∙ at in
+        let f : pair ≡ other_pair = cc in
         subst (IsSoOf u new (suc place)) f (subst (λ (k : ℕ). IsSoOf u new (suc k) pair) (sym same.1) (record {
           present = decided known.present new.present present count (WasPresent u pair.pkg.name) p so.present_long isp;
           stood = decided known.stood new.stood stood count (Stood u pair.pkg) s so.stood_long iss;
           wanted = decided known.wanted new.wanted wanted count (IsWanted u pair.pkg) w so.wanted_long isw;
         }))
     | inr other ↦ let earlier : place < count = omega (arith, below, other.1) in
-        let before = so.each place found earlier at in
+        let before = so.each place other_pair earlier at in
         record {
-          present = kept known.present new.present present count place (WasPresent u found.pkg.name) p so.present_long earlier before.present;
-          stood = kept known.stood new.stood stood count place (Stood u found.pkg) s so.stood_long earlier before.stood;
-          wanted = kept known.wanted new.wanted wanted count place (IsWanted u found.pkg) w so.wanted_long earlier before.wanted;
+          present = kept known.present new.present present count place (WasPresent u other_pair.pkg.name) p so.present_long earlier before.present;
+          stood = kept known.stood new.stood stood count place (Stood u other_pair.pkg) s so.stood_long earlier before.stood;
+          wanted = kept known.wanted new.wanted wanted count place (IsWanted u other_pair.pkg) w so.wanted_long earlier before.wanted;
         }
   ];
   none = (

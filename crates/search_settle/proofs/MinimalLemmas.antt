@@ -72,9 +72,9 @@ module _ (law : AcceptableWherePremisesAreTrue) (u : Universe) (premises : List 
       (ap (λ (roles : List Role). slice_get roles place) by.roles ∙ mapped_at role_of premises place reason is)
 
   -- the numbers of two pairs of one name are siblings
-  siblings : (number other : ℕ) (pair found : Pair) → item_at u.pairs number ≡ Some pair → item_at u.pairs other ≡ Some found
-      → found.pkg.name ≡ pair.pkg.name → number ≢ other → AreSiblings given number other
-  siblings number other pair found there also names differ = elim (cases_lt number other) [
+  siblings : (number other : ℕ) (pair beside : Pair) → item_at u.pairs number ≡ Some pair → item_at u.pairs other ≡ Some beside
+      → beside.pkg.name ≡ pair.pkg.name → number ≢ other → AreSiblings given number other
+  siblings number other pair beside there also names differ = elim (cases_lt number other) [
     | inl below ↦ first below
     | inr above ↦ second (omega (arith, above, differ))
   ]
@@ -87,7 +87,7 @@ module _ (law : AcceptableWherePremisesAreTrue) (u : Universe) (premises : List 
 
       first : number < other → AreSiblings given number other
       first below =
-          let is : IsPremise u (premise.Same number other) = (below, (pair, there, (found, also, names))) in
+          let is : IsPremise u (premise.Same number other) = (below, (pair, there, (beside, also, names))) in
           let place = clause_of u premises given by (premise.Same number other) is in
           record {
             place = place.0;
@@ -97,7 +97,7 @@ module _ (law : AcceptableWherePremisesAreTrue) (u : Universe) (premises : List 
 
       second : other < number → AreSiblings given number other
       second below =
-          let is : IsPremise u (premise.Same other number) = (below, (found, also, (pair, there, sym names))) in
+          let is : IsPremise u (premise.Same other number) = (below, (beside, also, (pair, there, sym names))) in
           let place = clause_of u premises given by (premise.Same other number) is in
           record {
             place = place.0;
@@ -107,19 +107,19 @@ module _ (law : AcceptableWherePremisesAreTrue) (u : Universe) (premises : List 
           }
 
   -- one number has one pair
-  one_pair : (number other : ℕ) (pair found : Pair) → number ≡ other → item_at u.pairs number ≡ Some pair → item_at u.pairs other ≡ Some found → pair ≡ found
-  one_pair number other pair found same there also =
-      let e : Some pair ≡ Some found = sym there ∙ ap (item_at u.pairs) same ∙ also in cc
+  one_pair : (number other : ℕ) (pair beside : Pair) → number ≡ other → item_at u.pairs number ≡ Some pair → item_at u.pairs other ≡ Some beside → pair ≡ beside
+  one_pair number other pair beside same there also =
+      let e : Some pair ≡ Some beside = sym there ∙ ap (item_at u.pairs) same ∙ also in cc
 
   -- siblings have pairs of one name
   sibling_named : (number other : ℕ) (pair : Pair) → item_at u.pairs number ≡ Some pair → AreSiblings given number other
-      → (found : Pair) × (item_at u.pairs other ≡ Some found) × (found.pkg.name ≡ pair.pkg.name)
+      → (beside : Pair) × (item_at u.pairs other ≡ Some beside) × (beside.pkg.name ≡ pair.pkg.name)
   sibling_named number other pair there are =
       let reason = premise_of u premises given by are.place (by.indexed.lists.within _ are.place are.listed) in
       named reason.0 reason.2 (sym (role_there number reason.0 are.place reason.1) ∙ are.sibling)
     where
       Found : Type 0
-      Found = (found : Pair) × (item_at u.pairs other ≡ Some found) × (found.pkg.name ≡ pair.pkg.name)
+      Found = (beside : Pair) × (item_at u.pairs other ≡ Some beside) × (beside.pkg.name ≡ pair.pkg.name)
 
       two : (a b : ℕ) → IsPremise u (premise.Same a b)
           → ((a == number) ≡ true × a ≡ number) ⊎ ((a == number) ≡ false × (a ≢ number))
@@ -154,12 +154,12 @@ module _ (law : AcceptableWherePremisesAreTrue) (u : Universe) (premises : List 
       named (premise.Keep a) is at = absurd (let e : None ≡ Some other = at in cc)
 
   -- of two pairs of one name one isn't selected
-  one_out : (number other : ℕ) (pair found : Pair) → item_at u.pairs number ≡ Some pair → item_at u.pairs other ≡ Some found
-      → found.pkg.name ≡ pair.pkg.name → number ≢ other → selection number ≡ true → selection other ≡ false
-  one_out number other pair found there also names differ chosen = elim (cases_lt number other) [
-    | inl below ↦ let is = premises_true u premises given by selection all (premise.Same number other) (below, (pair, there, (found, also, names))) in
+  one_out : (number other : ℕ) (pair beside : Pair) → item_at u.pairs number ≡ Some pair → item_at u.pairs other ≡ Some beside
+      → beside.pkg.name ≡ pair.pkg.name → number ≢ other → selection number ≡ true → selection other ≡ false
+  one_out number other pair beside there also names differ chosen = elim (cases_lt number other) [
+    | inl below ↦ let is = premises_true u premises given by selection all (premise.Same number other) (below, (pair, there, (beside, also, names))) in
         out is.0 is.1 is.2
-    | inr above ↦ let is = premises_true u premises given by selection all (premise.Same other number) (omega (arith, above, differ), (found, also, (pair, there, sym names))) in
+    | inr above ↦ let is = premises_true u premises given by selection all (premise.Same other number) (omega (arith, above, differ), (beside, also, (pair, there, sym names))) in
         tuo is.0 is.1 is.2
   ]
     where
@@ -172,20 +172,20 @@ module _ (law : AcceptableWherePremisesAreTrue) (u : Universe) (premises : List 
       tuo l (inr is) holds = absurd (let e : true ≡ false = sym chosen ∙ subst (IsTrueOf selection) is holds in cc)
 
   -- where a clause says what a number needs, its literals that select are of packages that it needs
-  needs : (number other place : ℕ) (pair found : Pair) → item_at u.pairs number ≡ Some pair → item_at u.pairs other ≡ Some found
-      → place < length given.clauses → is_need_at given number place ≡ true → Contains (clause_at given place) (pos other) → Needs pair.pkg found.pkg
+  needs : (number other place : ℕ) (pair beside : Pair) → item_at u.pairs number ≡ Some pair → item_at u.pairs other ≡ Some beside
+      → place < length given.clauses → is_need_at given number place ≡ true → Contains (clause_at given place) (pos other) → Needs pair.pkg beside.pkg
   unfolding Needs
-  needs number other place pair found there also within need in_clause =
+  needs number other place pair beside there also within need in_clause =
       let reason = premise_of u premises given by place within in
       said reason.0 (selected_in u premises given by reason.0 (clause_at given place) other reason.2 reason.3 in_clause)
       (sym (ap (λ (o : Option Role). option_map_or (is_need_of number) o false)
       (ap (λ (roles : List Role). slice_get roles place) by.roles ∙ mapped_at role_of premises place reason.0 reason.1)) ∙ need)
     where
       matched : (field : Pkg → List (List Atom)) (a clause : ℕ) → a ≡ number
-          → PairHas u other (λ needed. PairHas u a (λ pkg. HasAt (field pkg) clause (MatchesSome needed))) → Any (MatchesSome found.pkg) (field pair.pkg)
+          → PairHas u other (λ needed. PairHas u a (λ pkg. HasAt (field pkg) clause (MatchesSome needed))) → Any (MatchesSome beside.pkg) (field pair.pkg)
       matched field a clause same has =
           let mine = one_pair a number has.2.0 pair same has.2.1 there in
-          let its = one_pair other other has.0 found refl has.1 also in
+          let its = one_pair other other has.0 beside refl has.1 also in
           subst (λ (p : Pair). Any (MatchesSome p.pkg) (field pair.pkg)) its
           (subst (λ (p : Pair). Any (MatchesSome has.0.pkg) (field p.pkg)) mine
           (Any-intro (MatchesSome has.0.pkg) (field has.2.0.pkg) has.2.2.0 (item_in (field has.2.0.pkg) clause has.2.2.0 has.2.2.1) has.2.2.2))
@@ -194,12 +194,12 @@ module _ (law : AcceptableWherePremisesAreTrue) (u : Universe) (premises : List 
           item_in xs zero x is = absurd (let e : None ≡ Some x = is in cc)
           item_in xs (suc k) x is = found_in xs k x is
 
-      said : (reason : Premise) → IsInPremise u reason (literal.Selected other) → is_need_of number (role_of reason) ≡ true → Needs pair.pkg found.pkg
+      said : (reason : Premise) → IsInPremise u reason (literal.Selected other) → is_need_of number (role_of reason) ≡ true → Needs pair.pkg beside.pkg
       said (premise.PreDepends a clause) (inl is) so = absurd (cc)
-      said (premise.PreDepends a clause) (inr has) so = Any-append_left (MatchesSome found.pkg) pair.pkg.relations.pre_depends pair.pkg.relations.depends
+      said (premise.PreDepends a clause) (inr has) so = Any-append_left (MatchesSome beside.pkg) pair.pkg.relations.pre_depends pair.pkg.relations.depends
           (matched (λ pkg. pkg.relations.pre_depends) a clause (same_of a number so) has)
       said (premise.Depends a clause) (inl is) so = absurd (cc)
-      said (premise.Depends a clause) (inr has) so = Any-append_right (MatchesSome found.pkg) pair.pkg.relations.pre_depends pair.pkg.relations.depends
+      said (premise.Depends a clause) (inr has) so = Any-append_right (MatchesSome beside.pkg) pair.pkg.relations.pre_depends pair.pkg.relations.depends
           (matched (λ pkg. pkg.relations.depends) a clause (same_of a number so) has)
       said (premise.Same a b) is so = absurd (let e : false ≡ true = so in cc)
       said (premise.Conflicts a b) is so = absurd (let e : false ≡ true = so in cc)

@@ -51,11 +51,11 @@ pub gains_more : (old lists new : List (List ℕ)) (literals : List ℤ) (litera
 gains_more old lists new literals literal clause gains long others pushed = record {
   long = long ∙ gains.long;
   kept = λ at place within. keeps at place (gains.kept at place within);
-  each = λ found within below. elim (Contains-append_cases literals (literal ∷ []) found within) [
-    | inl earlier ↦ keeps (place_of found) clause (gains.each found earlier below)
-    | inr here ↦ elim (Contains-cons literal [] found here) [
-      | inl same ↦ is_there found same (omega (arith, gains.long, below))
-      | inr none ↦ absurd (Contains-nil found none)
+  each = λ listed_literal within below. elim (Contains-append_cases literals (literal ∷ []) listed_literal within) [
+    | inl earlier ↦ keeps (place_of listed_literal) clause (gains.each listed_literal earlier below)
+    | inr here ↦ elim (Contains-cons literal [] listed_literal here) [
+      | inl same ↦ is_there listed_literal same (omega (arith, gains.long, below))
+      | inr none ↦ absurd (Contains-nil listed_literal none)
     ]
   ];
   only = λ at place within. elim (only_this at place within) [
@@ -64,8 +64,8 @@ gains_more old lists new literals literal clause gains long others pushed = reco
   ];
 }
   where
-    is_there : (found : ℤ) → literal ≡ found → place_of found < length lists → Contains (get_or new (place_of found) []) clause
-    is_there found same within = subst (λ (l : ℤ). Contains (get_or new (place_of l) []) clause) same
+    is_there : (listed_literal : ℤ) → literal ≡ listed_literal → place_of listed_literal < length lists → Contains (get_or new (place_of listed_literal) []) clause
+    is_there listed_literal same within = subst (λ (l : ℤ). Contains (get_or new (place_of l) []) clause) same
         (subst (λ (xs : List ℕ). Contains xs clause) (sym (pushed (subst (λ (l : ℤ). place_of l < length lists) (sym same) within)))
         (Contains-append_right (get_or lists (place_of literal) []) (clause ∷ []) clause (Contains-head clause [])))
 

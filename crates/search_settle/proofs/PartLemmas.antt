@@ -131,7 +131,7 @@ module _ (u : Universe) (premises : List Premise) (given : Given) (by : IsGivenB
   same_number number = elim (eqb_tells number number) [ inl same ↦ same.0 | inr other ↦ absurd (other.1 refl) ]
 
   -- a literal of a premise that is true leaves the premise's clause true of the part
-  literal_part : (reason : Premise) (found : Literal) → IsPremise u reason → IsInPremise u reason found → IsTrueOf selection found
+  literal_part : (reason : Premise) (item : Literal) → IsPremise u reason → IsInPremise u reason item → IsTrueOf selection item
       → IsClauseTrue (part_of selection set) (IsInPremise u reason)
   unfolding IsWanted
   literal_part reason (literal.Unselected number) is within out = (literal.Unselected number, within, still_out number out)
@@ -161,9 +161,9 @@ module _ (u : Universe) (premises : List Premise) (given : Given) (by : IsGivenB
         (inr (Any-intro (AsksFor within.0.pkg.name) u.goals within.2.0 (goal_in within.2.0 asked within.2.1) (asked_for u within.2.0 within.0.pkg within.2.2))) chosen,
   )
     where
-      goal_in : (found : Goal) (number : ℕ) → item_at u.goals number ≡ Some found → Contains u.goals found
-      goal_in found zero there = absurd (let e : None ≡ Some found = there in cc)
-      goal_in found (suc place) there = found_in u.goals place found there
+      goal_in : (item : Goal) (number : ℕ) → item_at u.goals number ≡ Some item → Contains u.goals item
+      goal_in item zero there = absurd (let e : None ≡ Some item = there in cc)
+      goal_in item (suc place) there = found_in u.goals place item there
   literal_part (premise.GoalOn asked pair) (literal.Selected number) is within chosen =
       said is.0 (subst (λ (one : Goal). IsSaidBy one pair (literal.Selected number)) (same_goal asked within.0 is.0 within.1 is.1) within.2) is.2.2
     where
@@ -202,5 +202,5 @@ pub parts_are_true : (u : Universe) (premises : List Premise) (given : Given) �
 unfolding PartsAreTrue
 parts_are_true u premises given by known knows present selection set all closed =
     clauses_true u premises given by (part_of selection set) (λ reason is.
-    let found = premises_true u premises given by selection all reason is in
-    literal_part u premises given by known knows present selection set closed reason found.0 is found.1 found.2)
+    let item = premises_true u premises given by selection all reason is in
+    literal_part u premises given by known knows present selection set closed reason item.0 is item.1 item.2)

@@ -17,25 +17,25 @@ pub found_more : (given : Given) (known : Known) (selection : ℕ → Bool) (mar
     → ((set : ℕ → Bool) → IsClosedIn given known selection set → set number ≡ true)
     → ((other : ℕ) → other ≢ number → holds others other ≡ holds marks other) → holds others number ≡ true → longer ≡ order ++ number ∷ []
     → IsFound given known selection (record { marks = others; order = longer })
-found_more given known selection marks others order longer number found chosen sound kept written grown = record {
+found_more given known selection marks others order longer number so_far chosen sound kept written grown = record {
   selected = λ other is. elim (eqb_tells other number) [
     | inl same ↦ ap selection same.1 ∙ chosen
-    | inr differs ↦ found.selected other (sym (kept other differs.1) ∙ is)
+    | inr differs ↦ so_far.selected other (sym (kept other differs.1) ∙ is)
   ];
   sound = λ set closed other is. elim (eqb_tells other number) [
     | inl same ↦ ap set same.1 ∙ sound set closed
-    | inr differs ↦ found.sound set closed other (sym (kept other differs.1) ∙ is)
+    | inr differs ↦ so_far.sound set closed other (sym (kept other differs.1) ∙ is)
   ];
   ordered = λ other is. elim (eqb_tells other number) [
     | inl same ↦ subst (λ (xs : List ℕ). Contains xs other) (sym grown) (Contains-append_right order (number ∷ []) other
         (subst (λ (n : ℕ). Contains (n ∷ []) other) same.1 (Contains-head other [])))
     | inr differs ↦ subst (λ (xs : List ℕ). Contains xs other) (sym grown) (Contains-append_left order (number ∷ []) other
-        (found.ordered other (sym (kept other differs.1) ∙ is)))
+        (so_far.ordered other (sym (kept other differs.1) ∙ is)))
   ];
   marked = λ other within. elim (Contains-append_cases order (number ∷ []) other (subst (λ (xs : List ℕ). Contains xs other) grown within)) [
     | inl earlier ↦ elim (eqb_tells other number) [
       | inl same ↦ ap (holds others) same.1 ∙ written
-      | inr differs ↦ kept other differs.1 ∙ found.marked other earlier
+      | inr differs ↦ kept other differs.1 ∙ so_far.marked other earlier
     ]
     | inr last ↦ elim (Contains-cons number [] other last) [
       | inl same ↦ ap (holds others) (sym same) ∙ written
@@ -53,8 +53,8 @@ extends_further old mid new one two = record {
   long = two.long ∙ one.long;
 }
 
-pub extends_itself : (found : Found) → Extends found found
-extends_itself found = record { kept = λ number is. is; longer = omega arith; same = λ k within. refl; long = refl }
+pub extends_itself : (reached : Found) → Extends reached reached
+extends_itself reached = record { kept = λ number is. is; longer = omega arith; same = λ k within. refl; long = refl }
 
 -- what a number needs is still there
 pub needs_kept : (given : Given) (selection : ℕ → Bool) (old new : Found) (number : ℕ) → Extends old new
@@ -64,13 +64,13 @@ needs_kept given selection old new number extends has = λ place other listed is
     extends.kept other (has place other listed is in_clause chosen)
 
 -- what a clause says that a found number needs is in each closed set
-pub needed_sound : (given : Given) (known : Known) (selection : ℕ → Bool) (found : Found) (number place : ℕ) (literals : List ℤ) (k : ℕ)
-    → IsFound given known selection found → holds found.marks number ≡ true → Contains (places_without given number) place
+pub needed_sound : (given : Given) (known : Known) (selection : ℕ → Bool) (reached : Found) (number place : ℕ) (literals : List ℤ) (k : ℕ)
+    → IsFound given known selection reached → holds reached.marks number ≡ true → Contains (places_without given number) place
     → is_need_at given number place ≡ true → literals ≡ clause_at given place → k < length literals → (other : ℕ)
     → get_or literals k (pos 0) ≡ pos other → selection other ≡ true → (set : ℕ → Bool) → IsClosedIn given known selection set
     → set other ≡ true
 unfolding HasNeeds
-needed_sound given known selection found number place literals k is marked listed need same within other at chosen set closed =
+needed_sound given known selection reached number place literals k is marked listed need same within other at chosen set closed =
     closed.needed number (is.selected number marked) (is.sound set closed number marked) place other listed need
     (subst (λ (xs : List ℤ). Contains xs (pos other)) same (k, within, get_or_default literals k (pos other) (pos 0) within ∙ at)) chosen
 
@@ -108,10 +108,10 @@ more_have given selection old new bound number extends within at before here k b
 ]
 
 -- where all numbers in the order have what they need, each found one has
-pub all_have : (given : Given) (known : Known) (selection : ℕ → Bool) (found : Found) (bound : ℕ) → IsFound given known selection found
-    → length found.order ≤ bound → ((k : ℕ) → k < bound → HasNeeds given selection (holds found.marks) (get_or found.order k 0))
-    → (number : ℕ) → holds found.marks number ≡ true → HasNeeds given selection (holds found.marks) number
-all_have given known selection found bound is all each number marked =
+pub all_have : (given : Given) (known : Known) (selection : ℕ → Bool) (reached : Found) (bound : ℕ) → IsFound given known selection reached
+    → length reached.order ≤ bound → ((k : ℕ) → k < bound → HasNeeds given selection (holds reached.marks) (get_or reached.order k 0))
+    → (number : ℕ) → holds reached.marks number ≡ true → HasNeeds given selection (holds reached.marks) number
+all_have given known selection reached bound is all each number marked =
     let within = is.ordered number marked in
-    subst (HasNeeds given selection (holds found.marks)) (get_or_default found.order within.0 0 number within.1 ∙ within.2)
+    subst (HasNeeds given selection (holds reached.marks)) (get_or_default reached.order within.0 0 number within.1 ∙ within.2)
     (each within.0 (omega (arith, within.1)))

@@ -31,17 +31,17 @@ module _ (given : Given) (known : Known) (selection : ℕ → Bool) (number : �
   other_rests out added (Add taken) is = subst (λ (n : ℕ). IsRefused given known selection (Add n)) (sym is) added
 
   -- a member rests where no sibling can take its place
-  pub member_at_rest : (found : Option Change) → selection number ≡ true → IsRefused given known selection (Leave number)
-      → MatchOption found ((taken : ℕ) → AreSiblings given number taken → IsRefused given known selection (Replace number taken))
+  pub member_at_rest : (maybe_change : Option Change) → selection number ≡ true → IsRefused given known selection (Leave number)
+      → MatchOption maybe_change ((taken : ℕ) → AreSiblings given number taken → IsRefused given known selection (Replace number taken))
       (IsMove given known selection)
-      → MatchOption found (IsAtRest given known selection number) (IsMove given known selection)
-  member_at_rest found chosen left = otherwise found
+      → MatchOption maybe_change (IsAtRest given known selection number) (IsMove given known selection)
+  member_at_rest maybe_change chosen left = otherwise maybe_change
       ((taken : ℕ) → AreSiblings given number taken → IsRefused given known selection (Replace number taken))
       (IsAtRest given known selection number) (IsMove given known selection) (member_rests chosen left)
 
   -- another number rests where it can't be added
-  pub other_at_rest : (found : Option Change) → selection number ≡ false
-      → MatchOption found (IsRefused given known selection (Add number)) (IsMove given known selection)
-      → MatchOption found (IsAtRest given known selection number) (IsMove given known selection)
-  other_at_rest found out = otherwise found (IsRefused given known selection (Add number)) (IsAtRest given known selection number)
+  pub other_at_rest : (maybe_change : Option Change) → selection number ≡ false
+      → MatchOption maybe_change (IsRefused given known selection (Add number)) (IsMove given known selection)
+      → MatchOption maybe_change (IsAtRest given known selection number) (IsMove given known selection)
+  other_at_rest maybe_change out = otherwise maybe_change (IsRefused given known selection (Add number)) (IsAtRest given known selection number)
       (IsMove given known selection) (other_rests out)

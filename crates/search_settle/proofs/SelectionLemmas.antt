@@ -43,14 +43,14 @@ given_by u encoding given is indexed roles clauses numbers = record {
 }
 
 -- a literal that is true of a list of numbers is true of the set that holds the same
-literal_true : (numbers : List ℕ) (set : ℕ → Bool) → ((number : ℕ) → set number ≡ selects numbers number) → (found : ℤ) → IsTrueLiteral numbers found
-    → is_true_of set found ≡ true
+literal_true : (numbers : List ℕ) (set : ℕ → Bool) → ((number : ℕ) → set number ≡ selects numbers number) → (item : ℤ) → IsTrueLiteral numbers item
+    → is_true_of set item ≡ true
 literal_true numbers set same (pos number) is = same number ∙ selects_contained numbers number is
 literal_true numbers set same (negsuc below) is = ap not (same (below + 1) ∙ selects_not numbers (below + 1) is)
 
 -- and the other way round
-true_literal : (numbers : List ℕ) (set : ℕ → Bool) → ((number : ℕ) → set number ≡ selects numbers number) → (found : ℤ) → is_true_of set found ≡ true
-    → IsTrueLiteral numbers found
+true_literal : (numbers : List ℕ) (set : ℕ → Bool) → ((number : ℕ) → set number ≡ selects numbers number) → (item : ℤ) → is_true_of set item ≡ true
+    → IsTrueLiteral numbers item
 true_literal numbers set same (pos number) is = contained_selects numbers number (sym (same number) ∙ is)
 true_literal numbers set same (negsuc below) is = λ within.
     let held : set (below + 1) ≡ true = same (below + 1) ∙ selects_contained numbers (below + 1) within in
@@ -78,11 +78,11 @@ number_at : (start : ℕ) (set : List Bool) (k d : ℕ) → k < length (numbers_
 number_at start [] k d within = absurd (omega arith)
 number_at start (true ∷ set) zero d within = (0, omega arith, omega arith, refl)
 number_at start (true ∷ set) (suc k) d within =
-    let found = number_at (start + 1) set k d (omega arith) in
-    (suc found.0, omega (arith, found.1), omega (arith, found.2), found.3)
+    let its_place = number_at (start + 1) set k d (omega arith) in
+    (suc its_place.0, omega (arith, its_place.1), omega (arith, its_place.2), its_place.3)
 number_at start (false ∷ set) k d within =
-    let found = number_at (start + 1) set k d within in
-    (suc found.0, omega (arith, found.1), omega (arith, found.2), found.3)
+    let its_place = number_at (start + 1) set k d within in
+    (suc its_place.0, omega (arith, its_place.1), omega (arith, its_place.2), its_place.3)
 
 -- the numbers ascend
 numbers_ascend : (start : ℕ) (set : List Bool) (i j d : ℕ) → i < j → j < length (numbers_from start set)
@@ -90,7 +90,7 @@ numbers_ascend : (start : ℕ) (set : List Bool) (i j d : ℕ) → i < j → j <
 numbers_ascend start [] i j d earlier within = absurd (omega arith)
 numbers_ascend start (true ∷ set) i zero d earlier within = absurd (omega arith)
 numbers_ascend start (true ∷ set) zero (suc j) d earlier within =
-    let found = number_at (start + 1) set j d (omega arith) in omega (arith, found.1)
+    let its_place = number_at (start + 1) set j d (omega arith) in omega (arith, its_place.1)
 numbers_ascend start (true ∷ set) (suc i) (suc j) d earlier within = numbers_ascend (start + 1) set i j d (omega arith) (omega arith)
 numbers_ascend start (false ∷ set) i j d earlier within = numbers_ascend (start + 1) set i j d earlier within
 
@@ -100,16 +100,16 @@ held_is_listed : (start : ℕ) (set : List Bool) (place number : ℕ) → number
 held_is_listed start [] place number is held = absurd (let e : false ≡ true = held in cc)
 held_is_listed start (true ∷ set) zero number is held = (0, omega arith, omega arith)
 held_is_listed start (true ∷ set) (suc place) number is held =
-    let found = held_is_listed (start + 1) set place number (omega arith) held in (suc found.0, omega (arith, found.1), found.2)
+    let its_place = held_is_listed (start + 1) set place number (omega arith) held in (suc its_place.0, omega (arith, its_place.1), its_place.2)
 held_is_listed start (false ∷ set) zero number is held = absurd (let e : false ≡ true = held in cc)
 held_is_listed start (false ∷ set) (suc place) number is held = held_is_listed (start + 1) set place number (omega arith) held
 
 -- what is among the numbers is held by the set
 listed_is_held : (set : List Bool) (number : ℕ) → Contains (numbers_from 0 set) number → holds set number ≡ true
 listed_is_held set number listed =
-    let found = number_at 0 set listed.0 number listed.1 in
-    let place : found.0 ≡ number = omega (arith, found.1, listed.2) in
-    subst (λ (n : ℕ). holds set n ≡ true) place found.3
+    let its_place = number_at 0 set listed.0 number listed.1 in
+    let place : its_place.0 ≡ number = omega (arith, its_place.1, listed.2) in
+    subst (λ (n : ℕ). holds set n ≡ true) place its_place.3
 
 -- the set and its numbers say the same of each number
 pub same_numbers : (set : List Bool) (number : ℕ) → holds set number ≡ selects (numbers_from 0 set) number
@@ -129,9 +129,9 @@ is_positive set (suc below) none held = omega arith
 pub numbers_are_selection : (greatest : ℕ) (set : List Bool) → length set ≡ greatest + 1 → holds set 0 ≡ false → IsSelection greatest (numbers_from 0 set)
 numbers_are_selection greatest set long none = (
   numbers_ascend 0 set,
-  λ k d within. let found = number_at 0 set k d within in
-      let first : 1 ≤ found.0 = is_positive set found.0 none found.3 in
-      (omega (arith, found.1, first), omega (arith, found.1, found.2, long)),
+  λ k d within. let its_place = number_at 0 set k d within in
+      let first : 1 ≤ its_place.0 = is_positive set its_place.0 none its_place.3 in
+      (omega (arith, its_place.1, first), omega (arith, its_place.1, its_place.2, long)),
 )
 
 -- all numbers but 0

@@ -36,4 +36,4 @@ pub records_are_present : (start : List Record) (u : Universe) → u.starts ≡ 
 unfolding StandingArePresent
 records_are_present start u same = subst (All IsPresentWhereStanding) (sym same)
     (All-map IsPresentWhereStanding start_of start
-    (λ k d within. let found = get_or start k d in of_state found.state (is_sound_flag found.flag) found.version))
+    (λ k d within. let entry = get_or start k d in of_state entry.state (is_sound_flag entry.flag) entry.version))

@@ -40,9 +40,9 @@ pub stays_true : (selection other : ℕ → Bool) (clauses : List (List ℤ)) �
     → AreTrue other clauses
 unfolding AreTrue
 stays_true selection other clauses all each place within =
-    let found : Any (λ literal. is_true_of selection literal ≡ true) (get_or clauses place []) =
+    let true_literal : Any (λ literal. is_true_of selection literal ≡ true) (get_or clauses place []) =
     Any-from_list_any (is_true_of selection) (get_or clauses place []) (all place within) in
-    at found.1 (found.0, found.2, found.3) found.4 (is_true_of other found.1) refl
+    at true_literal.1 (true_literal.0, true_literal.2, true_literal.3) true_literal.4 (is_true_of other true_literal.1) refl
   where
     at : (literal : ℤ) → Contains (get_or clauses place []) literal → is_true_of selection literal ≡ true → (b : Bool) → is_true_of other literal ≡ b
         → is_clause_true other (get_or clauses place []) ≡ true

@@ -17,8 +17,8 @@ pub record IsGivenBy (u : Universe) (premises : List Premise) (given : Given) : 
   pub roles : given.roles ≡ map role_of premises
   pub numbers : given.numbers ≡ length u.pairs
   pub clauses : AllZip (IsClauseOf u) premises given.clauses
-  pub sound : (found : Premise) → Contains premises found → IsPremise u found
-  pub every : (found : Premise) → IsPremise u found → Contains premises found
+  pub sound : (premise : Premise) → Contains premises premise → IsPremise u premise
+  pub every : (premise : Premise) → IsPremise u premise → Contains premises premise
 
 -- what is known is so of the universe's pairs
 pub record IsKnown (u : Universe) (known : Known) : Type 0 where

@@ -35,11 +35,11 @@ pub record Found : Type 0 where
   pub order : List ℕ
 
 -- each of them is selected, and in every closed set; each has its place in the order
-pub record IsFound (given : Given) (known : Known) (selection : ℕ → Bool) (found : Found) : Type 0 where
-  pub selected : (number : ℕ) → holds found.marks number ≡ true → selection number ≡ true
-  pub sound : (set : ℕ → Bool) → IsClosedIn given known selection set → (number : ℕ) → holds found.marks number ≡ true → set number ≡ true
-  pub ordered : (number : ℕ) → holds found.marks number ≡ true → Contains found.order number
-  pub marked : (number : ℕ) → Contains found.order number → holds found.marks number ≡ true
+pub record IsFound (given : Given) (known : Known) (selection : ℕ → Bool) (reached : Found) : Type 0 where
+  pub selected : (number : ℕ) → holds reached.marks number ≡ true → selection number ≡ true
+  pub sound : (set : ℕ → Bool) → IsClosedIn given known selection set → (number : ℕ) → holds reached.marks number ≡ true → set number ≡ true
+  pub ordered : (number : ℕ) → holds reached.marks number ≡ true → Contains reached.order number
+  pub marked : (number : ℕ) → Contains reached.order number → holds reached.marks number ≡ true
 
 -- more numbers were reached
 pub record Extends (old new : Found) : Type 0 where

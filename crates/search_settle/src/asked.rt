@@ -71,7 +71,8 @@ impl<'u> Asked<'u> {
 
     /// Whether the name is one of them. Linear in the name alone.
     pub(crate) fn has(&self, name: &[u8]) -> bool
-        ensures { (goals : List Goal) → self.now ≡ asked_in goals → IsTrue result ↔ Any (AsksFor name.now) goals }
+        ensures { (goals : List Goal) → self.now ≡ asked_in goals → IsTrue result
+            ↔ Any (AsksFor name.now) goals }
     {
         self.names.contains(name)
     }

@@ -36,7 +36,8 @@ pub(crate) fn was_present(part: &Part<'_, '_, '_>, name: &[u8]) -> bool
 }
 
 fn is_version(standing: Option<&Version<'_>>, version: &Version<'_>) -> bool
-    ensures { IsTrue result ↔ MatchOption (option_copied standing.entry) ⊥ (SameVersion version.now) }
+    ensures { IsTrue result
+        ↔ MatchOption (option_copied standing.entry) ⊥ (SameVersion version.now) }
 {
     match standing {
         None => false,
@@ -45,7 +46,9 @@ fn is_version(standing: Option<&Version<'_>>, version: &Version<'_>) -> bool
 }
 
 fn is_standing_at(start: &Start<'_>, pair: &Pair<'_, '_>) -> bool
-    ensures { IsTrue result ↔ ((start.now.name ≡ pair.now.pkg.name) × MatchOption start.now.standing ⊥ (SameVersion pair.now.pkg.version)) }
+    ensures { IsTrue result
+        ↔ ((start.now.name ≡ pair.now.pkg.name)
+        × MatchOption start.now.standing ⊥ (SameVersion pair.now.pkg.version)) }
 {
     is_same(start.name(), pair.name()) && is_version(start.standing(), &pair.version())
 }

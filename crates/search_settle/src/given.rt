@@ -145,7 +145,9 @@ impl<'e> Given<'e> {
 
     /// Whether the clauses in the list at a place are all true after the change.
     pub(crate) fn are_true_after(&self, set: &Vec<bool>, change: Change, list: usize) -> bool
-        ensures { result ≡ list_all (λ place. is_clause_true (after change (holds set.now.items)) (clause_at self.now place))
+        ensures { result
+            ≡ list_all (λ place.
+            is_clause_true (after change (holds set.now.items)) (clause_at self.now place))
             (slice_index_or self.now.lists list []) }
     {
         self.occurrences.at(list).iter().all(|place| is_clause_true_after(

@@ -43,7 +43,8 @@ fn is_sibling_selected(given: &Given<'_>, set: &Vec<bool>, number: u32, place: u
 
 // Whether a sibling of the number is selected.
 fn has_selected_sibling(given: &Given<'_>, set: &Vec<bool>, number: u32) -> bool
-    ensures { (result ≡ false) ↔ ((other : ℕ) → AreSiblings given.now number other → holds set.now.items other ≡ false) }
+    ensures { (result ≡ false)
+        ↔ ((other : ℕ) → AreSiblings given.now number other → holds set.now.items other ≡ false) }
 {
     given
         .places_without(number)
@@ -66,7 +67,8 @@ fn leaving(given: &Given<'_>, known: &Known, set: &Vec<bool>, number: u32) -> Op
     requires indexed { IsIndexed given.now }
     requires before { AreTrue (holds set.now.items) given.now.clauses }
     requires within { (1 ≤ number) × (number ≤ given.now.numbers) }
-    ensures { MatchOption result (IsRefused given.now known.now (holds set.now.items) (Change.Leave number))
+    ensures { MatchOption result
+        (IsRefused given.now known.now (holds set.now.items) (Change.Leave number))
         (IsMove given.now known.now (holds set.now.items)) }
 {
     let change = Change::Leave(number);
@@ -80,7 +82,8 @@ fn leaving(given: &Given<'_>, known: &Known, set: &Vec<bool>, number: u32) -> Op
 
 // Whether adding the number brings nearer: its name was present and has no member.
 fn is_missed(given: &Given<'_>, known: &Known, set: &Vec<bool>, number: u32) -> bool
-    ensures { IsTrue result ↔ IsNearer given.now known.now (holds set.now.items) (Change.Add number) }
+    ensures { IsTrue result
+        ↔ IsNearer given.now known.now (holds set.now.items) (Change.Add number) }
 {
     if has_selected_sibling(given, set, number) {
         return false;
@@ -93,7 +96,8 @@ fn adding(given: &Given<'_>, known: &Known, set: &Vec<bool>, number: u32) -> Opt
     requires indexed { IsIndexed given.now }
     requires before { AreTrue (holds set.now.items) given.now.clauses }
     requires within { (1 ≤ number) × (number ≤ given.now.numbers) }
-    ensures { MatchOption result (IsRefused given.now known.now (holds set.now.items) (Change.Add number))
+    ensures { MatchOption result
+        (IsRefused given.now known.now (holds set.now.items) (Change.Add number))
         (IsMove given.now known.now (holds set.now.items)) }
 {
     let change = Change::Add(number);
@@ -124,7 +128,8 @@ fn replacing_by(
     requires within { (1 ≤ out) × (out ≤ given.now.numbers) }
     requires selected { holds set.now.items out ≡ true }
     requires siblings { AreSiblings given.now out taken }
-    ensures { MatchOption result (IsRefused given.now known.now (holds set.now.items) (Change.Replace out taken))
+    ensures { MatchOption result
+        (IsRefused given.now known.now (holds set.now.items) (Change.Replace out taken))
         (IsMove given.now known.now (holds set.now.items)) }
 {
     let change = Change::Replace(out, taken);
@@ -152,7 +157,8 @@ fn replacing_at(
     requires selected { holds set.now.items out ≡ true }
     requires listed { Contains (places_without given.now out) place }
     ensures { MatchOption result
-        ((taken : ℕ) → sibling_at given.now out place ≡ Some taken → IsRefused given.now known.now (holds set.now.items) (Change.Replace out taken))
+        ((taken : ℕ) → sibling_at given.now out place ≡ Some taken
+        → IsRefused given.now known.now (holds set.now.items) (Change.Replace out taken))
         (IsMove given.now known.now (holds set.now.items)) }
 {
     match given.sibling_at(out, place) {
@@ -168,13 +174,14 @@ fn replacing(given: &Given<'_>, known: &Known, set: &Vec<bool>, out: u32) -> Opt
     requires within { (1 ≤ out) × (out ≤ given.now.numbers) }
     requires selected { holds set.now.items out ≡ true }
     ensures { MatchOption result
-        ((taken : ℕ) → AreSiblings given.now out taken → IsRefused given.now known.now (holds set.now.items) (Change.Replace out taken))
+        ((taken : ℕ) → AreSiblings given.now out taken
+        → IsRefused given.now known.now (holds set.now.items) (Change.Replace out taken))
         (IsMove given.now known.now (holds set.now.items)) }
 {
     for place in given.places_without(out) {
-        let found = replacing_at(given, known, set, out, *place);
-        if found.is_some() {
-            return found;
+        let change = replacing_at(given, known, set, out, *place);
+        if change.is_some() {
+            return change;
         }
     }
     None

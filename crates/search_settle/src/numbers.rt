@@ -17,7 +17,8 @@ pub(crate) fn set_of(
 ) -> Result<Vec<bool>, AllocError>
     requires within { All (λ number. number ≤ greatest) selection.now }
     ensures long { IfOk result (λ set. length set.items ≡ greatest + 1) }
-    ensures same { IfOk result (λ set. (number : ℕ) → holds set.items number ≡ selects selection.now number) }
+    ensures same { IfOk result
+        (λ set. (number : ℕ) → holds set.items number ≡ selects selection.now number) }
 {
     let mut set = vec![in alloc; false; greatest as usize + 1]?;
     for number in selection {

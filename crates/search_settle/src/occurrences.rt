@@ -49,8 +49,12 @@ impl Occurrences {
     // Puts a clause at the end of a list.
     fn push(&mut self, place: usize, clause: usize) -> Result<(), AllocError>
         ensures long { length self.new ≡ length self.old }
-        ensures others { OnOk result ((at : ℕ) → at ≢ place → slice_index_or self.new at [] ≡ slice_index_or self.old at []) }
-        ensures pushed { OnOk result (place < length self.old → slice_index_or self.new place [] ≡ slice_index_or self.old place [] ++ clause ∷ []) }
+        ensures others { OnOk result
+            ((at : ℕ) → at ≢ place → slice_index_or self.new at []
+            ≡ slice_index_or self.old at []) }
+        ensures pushed { OnOk result
+            (place < length self.old → slice_index_or self.new place []
+            ≡ slice_index_or self.old place [] ++ clause ∷ []) }
     {
         if place >= self.lists.len() {
             return Ok(());
@@ -62,9 +66,12 @@ impl Occurrences {
     // Puts a clause under a literal.
     fn push_under(&mut self, literal: &i32, clause: usize) -> Result<(), AllocError>
         ensures long { length self.new ≡ length self.old }
-        ensures others { OnOk result ((at : ℕ) → at ≢ place_of literal.now → slice_index_or self.new at [] ≡ slice_index_or self.old at []) }
+        ensures others { OnOk result
+            ((at : ℕ) → at ≢ place_of literal.now → slice_index_or self.new at []
+            ≡ slice_index_or self.old at []) }
         ensures pushed { OnOk result (place_of literal.now < length self.old
-            → slice_index_or self.new (place_of literal.now) [] ≡ slice_index_or self.old (place_of literal.now) [] ++ clause ∷ []) }
+            → slice_index_or self.new (place_of literal.now) []
+            ≡ slice_index_or self.old (place_of literal.now) [] ++ clause ∷ []) }
     {
         let literal = *literal;
         self.push(place_of(literal), clause)
@@ -83,7 +90,8 @@ impl Occurrences {
 
 /// Where each literal of the numbers up to the greatest occurs. Memory alone can fail. Linear in the literals.
 pub(crate) fn occurrences_of(alloc: Global, clauses: &Clauses) -> Result<Occurrences, AllocError>
-    ensures each { IfOk result (λ lists. ListsFirst lists clauses.now.clauses (length clauses.now.clauses)) }
+    ensures each { IfOk result
+        (λ lists. ListsFirst lists clauses.now.clauses (length clauses.now.clauses)) }
     ensures long { IfOk result (λ lists. length lists ≡ 2 * clauses.now.numbers + 2) }
 {
     let mut lists = Occurrences::new(alloc, 2 * (clauses.numbers() as usize) + 2)?;

@@ -43,11 +43,12 @@ impl Reached {
         set: &Vec<bool>,
         number: u32,
     ) -> Result<(), AllocError>
-        requires found { IsFound given.now known.now (holds set.now.items) self.old }
+        requires members { IsFound given.now known.now (holds set.now.items) self.old }
         requires place { number < length self.old.marks }
         requires selected { holds set.now.items number ≡ true }
-        requires sound { (other : ℕ → Bool) → IsClosedIn given.now known.now (holds set.now.items) other → other number ≡ true }
-        ensures found { OnOk result (IsFound given.now known.now (holds set.now.items) self.new) }
+        requires sound { (other : ℕ → Bool)
+            → IsClosedIn given.now known.now (holds set.now.items) other → other number ≡ true }
+        ensures members { OnOk result (IsFound given.now known.now (holds set.now.items) self.new) }
         ensures extends { OnOk result (Extends self.old self.new) }
         ensures reached { OnOk result (holds self.new.marks number ≡ true) }
     {
@@ -66,13 +67,15 @@ impl Reached {
         set: &Vec<bool>,
         number: u32,
     ) -> Result<(), AllocError>
-        requires found { IsFound given.now known.now (holds set.now.items) self.old }
+        requires members { IsFound given.now known.now (holds set.now.items) self.old }
         requires long { length self.old.marks ≡ length set.now.items }
         requires sound { holds set.now.items number ≡ true
-            → (other : ℕ → Bool) → IsClosedIn given.now known.now (holds set.now.items) other → other number ≡ true }
-        ensures found { OnOk result (IsFound given.now known.now (holds set.now.items) self.new) }
+            → (other : ℕ → Bool) → IsClosedIn given.now known.now (holds set.now.items) other
+            → other number ≡ true }
+        ensures members { OnOk result (IsFound given.now known.now (holds set.now.items) self.new) }
         ensures extends { OnOk result (Extends self.old self.new) }
-        ensures reached { OnOk result (holds set.now.items number ≡ true → holds self.new.marks number ≡ true) }
+        ensures reached { OnOk result
+            (holds set.now.items number ≡ true → holds self.new.marks number ≡ true) }
     {
         if has(set, number as usize) && !self.has(number as usize) {
             self.push(given, known, set, number)?;
@@ -88,13 +91,15 @@ impl Reached {
         set: &Vec<bool>,
         literal: &i32,
     ) -> Result<(), AllocError>
-        requires found { IsFound given.now known.now (holds set.now.items) self.old }
+        requires members { IsFound given.now known.now (holds set.now.items) self.old }
         requires long { length self.old.marks ≡ length set.now.items }
         requires sound { (number : ℕ) → literal.now ≡ pos number → holds set.now.items number ≡ true
-            → (other : ℕ → Bool) → IsClosedIn given.now known.now (holds set.now.items) other → other number ≡ true }
-        ensures found { OnOk result (IsFound given.now known.now (holds set.now.items) self.new) }
+            → (other : ℕ → Bool) → IsClosedIn given.now known.now (holds set.now.items) other
+            → other number ≡ true }
+        ensures members { OnOk result (IsFound given.now known.now (holds set.now.items) self.new) }
         ensures extends { OnOk result (Extends self.old self.new) }
-        ensures reached { OnOk result ((number : ℕ) → literal.now ≡ pos number → holds set.now.items number ≡ true
+        ensures reached { OnOk result
+            ((number : ℕ) → literal.now ≡ pos number → holds set.now.items number ≡ true
             → holds self.new.marks number ≡ true) }
     {
         let literal = *literal;
@@ -113,14 +118,16 @@ impl Reached {
         number: u32,
         place: usize,
     ) -> Result<(), AllocError>
-        requires found { IsFound given.now known.now (holds set.now.items) self.old }
+        requires members { IsFound given.now known.now (holds set.now.items) self.old }
         requires long { length self.old.marks ≡ length set.now.items }
         requires marked { holds self.old.marks number ≡ true }
         requires listed { Contains (places_without given.now number) place }
         requires need { is_need_at given.now number place ≡ true }
-        ensures found { OnOk result (IsFound given.now known.now (holds set.now.items) self.new) }
+        ensures members { OnOk result (IsFound given.now known.now (holds set.now.items) self.new) }
         ensures extends { OnOk result (Extends self.old self.new) }
-        ensures reached { OnOk result ((other : ℕ) → Contains (clause_at given.now place) (pos other) → holds set.now.items other ≡ true
+        ensures reached { OnOk result
+            ((other : ℕ) → Contains (clause_at given.now place) (pos other)
+            → holds set.now.items other ≡ true
             → holds self.new.marks other ≡ true) }
     {
         for literal in given.clause(place) {
@@ -137,12 +144,13 @@ impl Reached {
         set: &Vec<bool>,
         number: u32,
     ) -> Result<(), AllocError>
-        requires found { IsFound given.now known.now (holds set.now.items) self.old }
+        requires members { IsFound given.now known.now (holds set.now.items) self.old }
         requires long { length self.old.marks ≡ length set.now.items }
         requires marked { holds self.old.marks number ≡ true }
-        ensures found { OnOk result (IsFound given.now known.now (holds set.now.items) self.new) }
+        ensures members { OnOk result (IsFound given.now known.now (holds set.now.items) self.new) }
         ensures extends { OnOk result (Extends self.old self.new) }
-        ensures has { OnOk result (HasNeeds given.now (holds set.now.items) (holds self.new.marks) number) }
+        ensures has { OnOk result
+            (HasNeeds given.now (holds set.now.items) (holds self.new.marks) number) }
     {
         for place in given.places_without(number) {
             let place = *place;
@@ -163,9 +171,9 @@ impl Reached {
 
     // Reaches all that is needed by what was reached, in turn.
     fn close(&mut self, given: &Given<'_>, known: &Known, set: &Vec<bool>) -> Result<(), AllocError>
-        requires found { IsFound given.now known.now (holds set.now.items) self.old }
+        requires members { IsFound given.now known.now (holds set.now.items) self.old }
         requires long { length self.old.marks ≡ length set.now.items }
-        ensures found { OnOk result (IsFound given.now known.now (holds set.now.items) self.new) }
+        ensures members { OnOk result (IsFound given.now known.now (holds set.now.items) self.new) }
         ensures extends { OnOk result (Extends self.old self.new) }
         ensures has { OnOk result ((number : ℕ) → holds self.new.marks number ≡ true
             → HasNeeds given.now (holds set.now.items) (holds self.new.marks) number) }
@@ -193,11 +201,12 @@ impl Reached {
 
     // Reaches the wanted members.
     fn seed(&mut self, given: &Given<'_>, known: &Known, set: &Vec<bool>) -> Result<(), AllocError>
-        requires found { IsFound given.now known.now (holds set.now.items) self.old }
+        requires members { IsFound given.now known.now (holds set.now.items) self.old }
         requires long { length self.old.marks ≡ length set.now.items }
-        ensures found { OnOk result (IsFound given.now known.now (holds set.now.items) self.new) }
+        ensures members { OnOk result (IsFound given.now known.now (holds set.now.items) self.new) }
         ensures extends { OnOk result (Extends self.old self.new) }
-        ensures wanted { OnOk result ((number : ℕ) → number ≤ given.now.numbers → holds set.now.items number ≡ true
+        ensures wanted { OnOk result
+            ((number : ℕ) → number ≤ given.now.numbers → holds set.now.items number ≡ true
             → holds known.now.wanted number ≡ true → holds self.new.marks number ≡ true) }
     {
         for number in 0..=given.numbers() {
@@ -216,8 +225,9 @@ pub(crate) fn reached_in(
     known: &Known,
     set: &Vec<bool>,
 ) -> Result<Reached, AllocError>
-    ensures found { IfOk result (IsFound given.now known.now (holds set.now.items)) }
-    ensures closed { IfOk result (λ reached. IsClosedIn given.now known.now (holds set.now.items) (holds reached.marks)) }
+    ensures members { IfOk result (IsFound given.now known.now (holds set.now.items)) }
+    ensures closed { IfOk result
+        (λ reached. IsClosedIn given.now known.now (holds set.now.items) (holds reached.marks)) }
 {
     let mut reached = Reached::none(alloc, set)?;
     reached.seed(given, known, set)?;

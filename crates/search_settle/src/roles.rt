@@ -31,7 +31,8 @@ fn role_of(basis: &Basis<'_>) -> Role
 
 // The roles of clauses that hold for these reasons, in their order.
 fn roles_of(alloc: Global, bases: &[Basis<'_>]) -> Result<Vec<Role>, AllocError>
-    ensures { IfOk result (λ roles. roles.items ≡ map (λ basis. role_of (premise_of basis)) bases.now) }
+    ensures { IfOk result
+        (λ roles. roles.items ≡ map (λ basis. role_of (premise_of basis)) bases.now) }
 {
     bases.iter().map(|basis| role_of(basis)).collect(alloc)
 }

@@ -36,8 +36,10 @@ pub fn settle(
     requires present { StandingArePresent part.now }
     requires selection { IsSelection encoding.now.clauses.numbers selection.now }
     requires makes_true { MakesAllTrue selection.now encoding.now.clauses.clauses }
-    ensures selection { IfOk result (λ settled. IsSelection encoding.now.clauses.numbers settled.items) }
-    ensures makes_true { IfOk result (λ settled. MakesAllTrue settled.items encoding.now.clauses.clauses) }
+    ensures selection { IfOk result
+        (λ settled. IsSelection encoding.now.clauses.numbers settled.items) }
+    ensures makes_true { IfOk result
+        (λ settled. MakesAllTrue settled.items encoding.now.clauses.clauses) }
     ensures acceptable { IfOk result (λ settled. IsAcceptable part.now (selects settled.items)) }
     ensures minimal { IfOk result (λ settled. IsLocallyMinimal part.now (selects settled.items)) }
 {

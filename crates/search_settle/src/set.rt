@@ -21,7 +21,8 @@ pub(crate) fn has(set: &Vec<bool>, number: usize) -> bool
 // Writes whether the set holds a number for which it has a place.
 pub(crate) fn put(set: &mut Vec<bool>, number: usize, held: bool)
     requires { number < length set.old.items }
-    ensures kept { (other : ℕ) → other ≢ number → holds set.new.items other ≡ holds set.old.items other }
+    ensures kept { (other : ℕ) → other ≢ number → holds set.new.items other
+        ≡ holds set.old.items other }
     ensures written { holds set.new.items number ≡ held }
     ensures long { length set.new.items ≡ length set.old.items }
 {

@@ -21,7 +21,8 @@ use std::alloc::{AllocError, Global};
 fn make(set: &mut Vec<bool>, greatest: u32, change: Change)
     requires within { IsWithin greatest change }
     requires long { length set.old.items ≡ greatest + 1 }
-    ensures made { (number : ℕ) → holds set.new.items number ≡ after change (holds set.old.items) number }
+    ensures made { (number : ℕ) → holds set.new.items number
+        ≡ after change (holds set.old.items) number }
     ensures long { length set.new.items ≡ length set.old.items }
 {
     match change {
@@ -51,23 +52,25 @@ fn next_move(given: &Given<'_>, known: &Known, set: &Vec<bool>) -> Option<Change
     requires indexed { IsIndexed given.now }
     requires before { AreTrue (holds set.now.items) given.now.clauses }
     ensures { MatchOption result
-        ((number : ℕ) → 1 ≤ number → number ≤ given.now.numbers → IsAtRest given.now known.now (holds set.now.items) number)
+        ((number : ℕ) → 1 ≤ number → number ≤ given.now.numbers
+        → IsAtRest given.now known.now (holds set.now.items) number)
         (IsMove given.now known.now (holds set.now.items)) }
 {
     for number in 1..=given.numbers() {
-        let found = move_of(given, known, set, number);
-        if found.is_some() {
-            return found;
+        let change = move_of(given, known, set, number);
+        if change.is_some() {
+            return change;
         }
     }
     None
 }
 
 // A member that isn't reached, if there is one.
-fn unreached(set: &Vec<bool>, reached: &Reached) -> Option<usize>
+fn unreached_member(set: &Vec<bool>, reached: &Reached) -> Option<usize>
     ensures { MatchOption result
         ((number : ℕ) → holds set.now.items number ≡ true → holds reached.now.marks number ≡ true)
-        (λ number. (number < length set.now.items) × (holds set.now.items number ≡ true) × (holds reached.now.marks number ≡ false)) }
+        (λ number. (number < length set.now.items) × (holds set.now.items number ≡ true)
+        × (holds reached.now.marks number ≡ false)) }
 {
     for number in 0..set.len() {
         if has(set, number) && !reached.has(number) {
@@ -79,7 +82,8 @@ fn unreached(set: &Vec<bool>, reached: &Reached) -> Option<usize>
 
 // Leaves out the members that aren't reached.
 fn keep_reached(set: &mut Vec<bool>, reached: &Reached)
-    ensures kept { (number : ℕ) → holds set.new.items number ≡ part_of (holds set.old.items) (holds reached.now.marks) number }
+    ensures kept { (number : ℕ) → holds set.new.items number
+        ≡ part_of (holds set.old.items) (holds reached.now.marks) number }
     ensures long { length set.new.items ≡ length set.old.items }
 {
     for number in 0..set.len() {
@@ -132,9 +136,9 @@ fn first_move(given: &Given<'_>, known: &Known, set: &Vec<bool>, wish: &[u32]) -
     ensures { MatchOption result ⊤ (IsMove given.now known.now (holds set.now.items)) }
 {
     for number in wish {
-        let found = move_about(given, known, set, *number);
-        if found.is_some() {
-            return found;
+        let change = move_about(given, known, set, *number);
+        if change.is_some() {
+            return change;
         }
     }
     None
@@ -175,7 +179,7 @@ fn advance(given: &Given<'_>, known: &Known, set: &mut Vec<bool>, number: u32) -
 }
 
 // Makes changes until no number waits. All wait at first, and again those in clauses with a number that was changed.
-fn rush(
+fn advance_all(
     alloc: Global,
     given: &Given<'_>,
     known: &Known,
@@ -214,13 +218,15 @@ fn drop_unreached(
     requires parts { PartsAreTrue given.now known.now }
     ensures long { OnOk result (length set.new.items ≡ length set.old.items) }
     ensures makes_true { OnOk result (AreTrue (holds set.new.items) given.now.clauses) }
-    ensures nearer { IfOk result (λ dropped. dropped ≡ true → distance known.now given.now.numbers (holds set.new.items)
+    ensures nearer { IfOk result
+        (λ dropped. dropped ≡ true → distance known.now given.now.numbers (holds set.new.items)
         < distance known.now given.now.numbers (holds set.old.items)) }
     ensures same { IfOk result (λ dropped. dropped ≡ false → set.new ≡ set.old) }
-    ensures reached { IfOk result (λ dropped. dropped ≡ false → AllReached given.now known.now (holds set.old.items)) }
+    ensures reached { IfOk result
+        (λ dropped. dropped ≡ false → AllReached given.now known.now (holds set.old.items)) }
 {
     let reached = reached_in(alloc, given, known, set)?;
-    match unreached(set, &reached) {
+    match unreached_member(set, &reached) {
         None => Ok(false),
         Some(_) => {
             keep_reached(set, &reached);
@@ -243,11 +249,13 @@ fn improve(
     requires parts { PartsAreTrue given.now known.now }
     ensures long { OnOk result (length set.new.items ≡ length set.old.items) }
     ensures makes_true { OnOk result (AreTrue (holds set.new.items) given.now.clauses) }
-    ensures nearer { IfOk result (λ changed. changed ≡ true → distance known.now given.now.numbers (holds set.new.items)
+    ensures nearer { IfOk result
+        (λ changed. changed ≡ true → distance known.now given.now.numbers (holds set.new.items)
         < distance known.now given.now.numbers (holds set.old.items)) }
-    ensures settled { IfOk result (λ changed. changed ≡ false → IsSettled given.now known.now (holds set.new.items)) }
+    ensures settled { IfOk result
+        (λ changed. changed ≡ false → IsSettled given.now known.now (holds set.new.items)) }
 {
-    rush(alloc, given, known, set)?;
+    advance_all(alloc, given, known, set)?;
     match next_move(given, known, set) {
         Some(change) => {
             take(given, known, set, change);

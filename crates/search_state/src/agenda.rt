@@ -122,11 +122,11 @@ impl Agenda {
     }
 
     // The clauses that a stage of owners asks for: those without an owner, then those of each selected number.
-    fn asked(&self, store: &Store<'_>, trail: &Trail, owner: usize) -> Span {
+    fn clauses_of_owner(&self, store: &Store<'_>, trail: &Trail, owner: usize) -> Span {
         match owner.checked_sub(1) {
             None => Span {
                 from: 0,
-                until: store.given().unowned(),
+                until: store.given().unowned_count(),
             },
             Some(place) => store.given().depends_of(selected_by(trail.literal(place))),
         }
@@ -148,7 +148,7 @@ impl Agenda {
     fn next_clause(&mut self, store: &Store<'_>, trail: &Trail) -> Option<i32> {
         for owner in self.places.owner..trail.len().saturating_add(1) {
             self.places.owner = owner;
-            let span = self.asked(store, trail, owner);
+            let span = self.clauses_of_owner(store, trail, owner);
             let literal = self.next_in(store, trail, span);
             if literal.is_some() {
                 return literal;
@@ -181,8 +181,7 @@ fn selected_by(literal: i32) -> u32 {
 
 /// Whether one of the numbers is selected.
 pub(crate) fn has_member(trail: &Trail, wish: &[u32]) -> bool {
-    wish.iter()
-        .any(|number| trail.selected(*number as usize) == Some(true))
+    wish.iter().any(|number| trail.assignment_of(*number as usize) == Some(true))
 }
 
 // The first number of a wish that is undecided, if none of them is selected.
@@ -193,6 +192,6 @@ fn best_of(trail: &Trail, wish: &[u32]) -> Option<i32> {
     let number = wish
         .iter()
         .copied()
-        .find(|number| trail.selected(*number as usize).is_none())?;
+        .find(|number| trail.assignment_of(*number as usize).is_none())?;
     selects(number as usize)
 }

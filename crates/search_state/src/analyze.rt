@@ -2,7 +2,7 @@
 // by. Literals of level 0 are left out of the clause, and their reasons go into its hints. The implication graph is the
 // trail with its reasons, so one walk from its end decides all.
 
-use crate::literal::{negated, number_of};
+use crate::literal::{negation, number_of};
 use crate::store::Store;
 use crate::table::{at, put};
 use crate::trail::Trail;
@@ -94,7 +94,7 @@ fn step(
     let level = trail.level_of(number);
     match duty_of(marks, level) {
         Duty::Resolve => resolve(store, trail, marks, learned, number)?,
-        Duty::Keep => learned.literals.push(negated(literal))?,
+        Duty::Keep => learned.literals.push(negation(literal))?,
     }
     settle(marks, level);
     Ok(())

@@ -1,6 +1,6 @@
 // What a search for a selection holds, and its steps: the clauses, the trail of what is true, the watches and what is
 // decided next; propagating, learning from a conflict and jumping back, deciding. It stands on `clauses`. The main type
-// is `State`; the search itself stands in `search`. Nothing here is trusted with an answer.
+// is `SearchState`; the search itself stands in `search`. Nothing here is trusted with an answer.
 #![tactic(auto)]
 
 mod agenda;
@@ -17,7 +17,7 @@ mod watch;
 pub use agenda::Agenda;
 pub use analyze::Learned;
 pub use leave_out::may_leave_out;
-pub use state::State;
+pub use state::SearchState;
 pub use store::Store;
 pub use trail::Trail;
 pub use watch::Watches;

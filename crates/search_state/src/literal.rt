@@ -11,7 +11,7 @@ pub fn number_of(literal: i32) -> usize
 }
 
 /// The literal that is true where this one is false: `-n` of `n`. The one below all others stands for itself.
-pub fn negated(literal: i32) -> i32 {
+pub fn negation(literal: i32) -> i32 {
     literal.wrapping_neg()
 }
 

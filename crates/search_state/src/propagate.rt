@@ -1,7 +1,7 @@
 // Unit propagation: what each literal of the trail makes false is looked at by the clauses that watch it, until nothing
 // is left or a clause is false. The lists of watches stand in `watch`, the trail in `trail`.
 
-use crate::literal::negated;
+use crate::literal::negation;
 use crate::store::Store;
 use crate::trail::Trail;
 use crate::watch::{Watches, clause_of};
@@ -77,7 +77,7 @@ pub(crate) fn propagate(
         let Some(literal) = trail.next() else {
             return None;
         };
-        if let Some(clause) = walk(store, trail, watches, negated(literal)) {
+        if let Some(clause) = walk(store, trail, watches, negation(literal)) {
             return Some(clause);
         }
     }

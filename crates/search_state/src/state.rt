@@ -10,7 +10,7 @@ use std::alloc::{AllocError, Global};
 
 /// The clauses, the trail, the watches and the agenda.
 #[derive(Drop)]
-pub struct State<'c> {
+pub struct SearchState<'c> {
     /// The clauses by number.
     pub store: Store<'c>,
     /// What is true.
@@ -21,7 +21,7 @@ pub struct State<'c> {
     pub agenda: Agenda,
 }
 
-impl State<'_> {
+impl SearchState<'_> {
     /// Makes true what has to be, and answers the number of a clause that is false, if there is one. No longer than the
     /// lists of watches of the literals that become true, with their clauses.
     pub fn propagate(&mut self) -> Option<usize> {

@@ -21,12 +21,12 @@ pub fn put<T: Drop>(list: &mut Vec<T>, place: usize, value: T) {
 }
 
 /// A number from 1 on as a list keeps it, where 0 is none.
-pub(crate) fn stored(number: Option<usize>) -> usize {
+pub(crate) fn number_or_zero(number: Option<usize>) -> usize {
     number.unwrap_or(0)
 }
 
 /// The number that a list keeps so.
-pub(crate) fn unstored(stored: usize) -> Option<usize> {
+pub(crate) fn nonzero_of(stored: usize) -> Option<usize> {
     match stored {
         0 => None,
         _ => Some(stored),

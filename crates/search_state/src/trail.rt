@@ -2,7 +2,7 @@
 // the jump back to a level. Why literals become true stands in `propagate` and `agenda`.
 
 use crate::literal::number_of;
-use crate::table::{at, put, stored, unstored};
+use crate::table::{at, nonzero_of, number_or_zero, put};
 use std::alloc::{AllocError, Global};
 
 /// The literals that are true, in the order in which they became so. Level 0 is before all decisions.
@@ -48,13 +48,13 @@ impl Trail {
     }
 
     /// Whether the number is selected, if that is decided; of a number that isn't there it isn't.
-    pub fn selected(&self, number: usize) -> Option<bool> {
+    pub fn assignment_of(&self, number: usize) -> Option<bool> {
         at(&self.values, number, None)
     }
 
     /// Whether the literal is true, if that is decided.
     pub fn value(&self, literal: i32) -> Option<bool> {
-        match self.selected(number_of(literal)) {
+        match self.assignment_of(number_of(literal)) {
             None => None,
             Some(selected) => Some(selected == (literal > 0)),
         }
@@ -67,7 +67,7 @@ impl Trail {
 
     /// The number of the clause by which the number had to be decided so; none of a decision.
     pub(crate) fn reason_of(&self, number: usize) -> Option<usize> {
-        unstored(at(&self.reasons, number, 0))
+        nonzero_of(at(&self.reasons, number, 0))
     }
 
     /// The level of the last decision.
@@ -82,7 +82,7 @@ impl Trail {
         let level = self.level();
         put(&mut self.values, number, Some(literal > 0));
         put(&mut self.levels, number, level);
-        put(&mut self.reasons, number, stored(reason));
+        put(&mut self.reasons, number, number_or_zero(reason));
         put(&mut self.literals, self.len, literal);
         self.len = self.len.saturating_add(1);
     }

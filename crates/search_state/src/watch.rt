@@ -2,7 +2,7 @@
 // `2 * clause + 1`, where clauses count from 1, so 0 is no watch. When a watch moves stands in `propagate`.
 
 use crate::literal::place_of;
-use crate::table::{at, put, stored, unstored};
+use crate::table::{at, nonzero_of, number_or_zero, put};
 use std::alloc::{AllocError, Global};
 
 /// Which literal each watch looks at, and the lists of the watches that look at one literal.
@@ -40,12 +40,12 @@ impl Watches {
 
     /// The first watch that looks at the literal.
     pub(crate) fn first(&self, literal: i32) -> Option<usize> {
-        unstored(at(&self.firsts, place_of(literal), 0))
+        nonzero_of(at(&self.firsts, place_of(literal), 0))
     }
 
     /// The watch behind this one, of those that look at the same literal.
     pub(crate) fn after(&self, watch: usize) -> Option<usize> {
-        unstored(at(&self.nexts, watch, 0))
+        nonzero_of(at(&self.nexts, watch, 0))
     }
 
     /// The literal that the clause's other watch looks at.
@@ -65,8 +65,8 @@ impl Watches {
     // Leaves out of the list of the literal what stood between a watch, or the front, and another one.
     fn unlink(&mut self, literal: i32, before: Option<usize>, after: Option<usize>) {
         match before {
-            None => put(&mut self.firsts, place_of(literal), stored(after)),
-            Some(before) => put(&mut self.nexts, before, stored(after)),
+            None => put(&mut self.firsts, place_of(literal), number_or_zero(after)),
+            Some(before) => put(&mut self.nexts, before, number_or_zero(after)),
         }
     }
 

@@ -9,7 +9,7 @@ use Rattle.rules.proofs.Rising.{pairs_head, pairs_tail}
 use Rattle.refutation.specs.Clause.{item_at}
 use Rattle.rules.specs.Universe.{Start, Universe}
 use Rattle.encode.specs.Encoding.{Encoding, IsEncoding}
-use Rattle.part.specs.Part.{IsPart, StandingWerePresent}
+use Rattle.closed_part.specs.Part.{IsPart, StandingWerePresent}
 use Rattle.search.specs.Found.{IsSelection}
 use Rattle.search_settle.specs.Encoded.{StandingArePresent}
 

@@ -1,14 +1,14 @@
 -- What is decided of a request, whatever its start.
 use Rattle.std.specs.Prelude.{◌≡◌, ℕ, ◌<◌, ◌^◌, Bool, List, length, ⊤}
 use Rattle.ordering.specs.Ordering.{AreAscending}
-use Rattle.part.specs.Premises.{LeavesChoice}
+use Rattle.closed_part.specs.Premises.{LeavesChoice}
 use Rattle.refutation.specs.Laws.{HasAscendingPairs, HasNeededPairs}
 use Rattle.refutation.specs.Selection.{selects}
 use Rattle.refutation.specs.declared.line.Line.{Line}
 use Rattle.rules.specs.Sound.{IsAcceptable}
 use Rattle.rules.specs.Universe.{Universe}
-use Rattle.search.specs.declared.found.Found.{Found}
-use Rattle.search.specs.declared.found.Found.TheVariants as found
+use Rattle.search.specs.declared.answer.SearchAnswer.{SearchAnswer}
+use Rattle.search.specs.declared.answer.SearchAnswer.TheVariants as outcome
 use Rattle.search_settle.specs.Encoded.{StandingArePresent}
 use Rattle.solver.specs.Solved.{IsShownBy}
 use Rattle.solver.specs.declared.decided.Decided.{Decided}
@@ -48,7 +48,7 @@ IsOnSelection (decided.Limit reached) = ⊥
 IsOnSelection decided.Unchecked = ⊥
 
 -- what may be decided where the search found this: a selection is never passed over
-abbrev pub IsDecisionOn : Found → Decided → Type 0
-IsDecisionOn (found.Selection numbers) answer = IsOnSelection answer
-IsDecisionOn (found.Refutation refutation) answer = IsOnRefutation answer
-IsDecisionOn (found.Limit reached) answer = answer ≡ decided.Limit reached
+abbrev pub IsDecisionOn : SearchAnswer → Decided → Type 0
+IsDecisionOn (outcome.Selection numbers) answer = IsOnSelection answer
+IsDecisionOn (outcome.Refutation refutation) answer = IsOnRefutation answer
+IsDecisionOn (outcome.Limit reached) answer = answer ≡ decided.Limit reached

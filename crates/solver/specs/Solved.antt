@@ -12,12 +12,12 @@ use Rattle.rules.specs.declared.step.Step.{Step}
 use Rattle.refutation.specs.Selection.{selects}
 use Rattle.order.specs.Order.{IsPlanFor}
 use Rattle.ordering.specs.Ordering.{IsStuckAfter}
-use Rattle.part.specs.Premises.{LeavesChoice}
+use Rattle.closed_part.specs.Premises.{LeavesChoice}
 use Rattle.forward_steps.specs.Selection.{chosen}
 use Rattle.plain.specs.Change.{IsPlain}
 use Rattle.plain.specs.Order.{IsInFixedOrder}
-use Rattle.search.specs.declared.found.Found.{Found}
-use Rattle.search.specs.declared.found.Found.TheVariants as found
+use Rattle.search.specs.declared.answer.SearchAnswer.{SearchAnswer}
+use Rattle.search.specs.declared.answer.SearchAnswer.TheVariants as outcome
 use Rattle.solver.specs.declared.solved.Solved.{Solved}
 use Rattle.solver.specs.declared.solved.Solved.TheVariants as solved
 use Rattle.solver.specs.declared.solved.Undecided.{Undecided}
@@ -90,7 +90,7 @@ IsOfRefutation (solved.Undecided (undecided.Stuck steps)) = ⊥
 IsOfRefutation (solved.Undecided undecided.Unchecked) = ⊤
 
 -- an answer that may be given where the search found this
-abbrev pub IsAnswerTo : Found → Solved → Type 0
-IsAnswerTo (found.Selection numbers) answer = IsOfSelection answer
-IsAnswerTo (found.Refutation refutation) answer = IsOfRefutation answer
-IsAnswerTo (found.Limit reached) answer = answer ≡ solved.Undecided (undecided.Limit reached)
+abbrev pub IsAnswerTo : SearchAnswer → Solved → Type 0
+IsAnswerTo (outcome.Selection numbers) answer = IsOfSelection answer
+IsAnswerTo (outcome.Refutation refutation) answer = IsOfRefutation answer
+IsAnswerTo (outcome.Limit reached) answer = answer ≡ solved.Undecided (undecided.Limit reached)

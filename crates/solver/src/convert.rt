@@ -4,7 +4,7 @@ use encode::Encoding;
 use reach::Reached;
 use refutation::{Line, Literal, Premise, Refutation};
 use rules::Items;
-use search::{Line as FoundLine, Refutation as Found};
+use search::{Derivation, DerivedClause};
 use std::alloc::{AllocError, Global};
 
 // A premise of the part as one of the universe; none where a pair's number is out of range.
@@ -65,10 +65,10 @@ fn literal_in(reached: &Reached<'_, '_, '_>, literal: i32) -> Option<Literal> {
 fn literals_in(
     alloc: Global,
     reached: &Reached<'_, '_, '_>,
-    found: &[i32],
+    numbers: &[i32],
 ) -> Result<Option<Vec<Literal>>, AllocError> {
     let mut literals = Vec::new(alloc);
-    for literal in found {
+    for literal in numbers {
         let Some(literal) = literal_in(reached, *literal) else {
             return Ok(None);
         };
@@ -78,10 +78,10 @@ fn literals_in(
 }
 
 // The line that follows from earlier ones; none where a number is out of range.
-fn derived(
+fn derived_line(
     alloc: Global,
     reached: &Reached<'_, '_, '_>,
-    line: &FoundLine,
+    line: &DerivedClause,
 ) -> Result<Option<Line>, AllocError> {
     let Some(literals) = literals_in(alloc, reached, line.literals.as_slice())? else {
         return Ok(None);
@@ -97,16 +97,16 @@ pub(crate) fn refutation_of(
     alloc: Global,
     reached: &Reached<'_, '_, '_>,
     encoding: &Encoding<'_>,
-    found: &Found,
+    derivation: &Derivation,
 ) -> Result<Refutation, AllocError> {
     let mut lines = Vec::new(alloc);
-    for place in &found.premises {
+    for place in &derivation.premises {
         if let Some(premise) = premise_at(alloc, reached, encoding, *place)? {
             lines.push(Line::Premise(premise))?;
         }
     }
-    for line in &found.lines {
-        if let Some(line) = derived(alloc, reached, line)? {
+    for line in &derivation.lines {
+        if let Some(line) = derived_line(alloc, reached, line)? {
             lines.push(line)?;
         }
     }

@@ -2,17 +2,17 @@
 
 ghost use Rattle.std.specs.Prelude.{IfOk};
 ghost use Rattle.encode.specs.Encoding.{IsEncoding};
-ghost use Rattle.part.specs.Part.{IsClosedPart, IsPart};
+ghost use Rattle.closed_part.specs.Part.{IsClosedPart, IsPart};
 ghost use Rattle.search.specs.Found.{IsAnswer};
 ghost use Rattle.solver.specs.Decided.{IsDecidable, IsDecided, IsDecisionOn};
 
 use crate::decided::Decided;
-use crate::judged::judged;
+use crate::judged::accepted_refutation;
 use crate::lift::lifted_selection;
+use closed_part::choice_of_part;
 use encode::{Encoding, encode_part};
-use part::choice_of_part;
 use reach::{Reached, reach};
-use search::{Found, search};
+use search::{SearchAnswer, search};
 use std::alloc::{AllocError, Global};
 use universe::Universe;
 
@@ -22,21 +22,21 @@ fn decided_by(
     universe: &Universe<'_, '_>,
     reached: &Reached<'_, '_, '_>,
     encoding: &Encoding<'_>,
-    found: &Found,
+    outcome: &SearchAnswer,
     limit: u32,
 ) -> Result<Decided, AllocError>
     requires decidable { IsDecidable universe.now }
     requires part { IsPart universe.now reached.now.numbers.items reached.now.part }
     requires closed { IsClosedPart universe.now reached.now.numbers.items }
     requires encoding { IsEncoding reached.now.part encoding.now }
-    requires found { IsAnswer encoding.now.clauses limit found.now }
+    requires outcome { IsAnswer encoding.now.clauses limit outcome.now }
     ensures decided { IfOk result (IsDecided universe.now limit) }
-    ensures answer { IfOk result (IsDecisionOn found.now) }
+    ensures answer { IfOk result (IsDecisionOn outcome.now) }
 {
     choice_of_part();
     let _limit = limit;
-    match found {
-        Found::Selection(numbers) => {
+    match outcome {
+        SearchAnswer::Selection(numbers) => {
             let selection = lifted_selection(
                 alloc,
                 universe,
@@ -46,13 +46,13 @@ fn decided_by(
             )?;
             Ok(Decided::Selection(selection))
         }
-        Found::Refutation(refutation) => {
-            match judged(alloc, universe, reached, encoding, refutation)? {
+        SearchAnswer::Refutation(refutation) => {
+            match accepted_refutation(alloc, universe, reached, encoding, refutation)? {
                 Some(refutation) => Ok(Decided::Refuted(refutation)),
                 None => Ok(Decided::Unchecked),
             }
         }
-        Found::Limit(spent) => Ok(Decided::Limit(*spent)),
+        SearchAnswer::Limit(spent) => Ok(Decided::Limit(*spent)),
     }
 }
 
@@ -71,8 +71,8 @@ fn decide_by(
     ensures { IfOk result (IsDecided universe.now limit) }
 {
     let clauses = encoding.clauses();
-    let found = search(alloc, clauses, limit)?;
-    let decided = decided_by(alloc, universe, reached, encoding, &found, limit)?;
+    let outcome = search(alloc, clauses, limit)?;
+    let decided = decided_by(alloc, universe, reached, encoding, &outcome, limit)?;
     Ok(decided)
 }
 

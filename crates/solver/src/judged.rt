@@ -10,25 +10,25 @@ use reach::Reached;
 use refutation::{Refutation, one_answer};
 use refutation_text::is_writable;
 use refutecheck::{Verdict, check_refutation};
-use search::Refutation as Found;
+use search::Derivation;
 use std::alloc::{AllocError, Global};
 use universe::Universe;
 
 /// The refutation that was found over what is reached, as one of the universe, if it is accepted and can be written. Costs what
 /// `check_refutation` costs. Memory alone can fail.
-pub(crate) fn judged(
+pub(crate) fn accepted_refutation(
     alloc: Global,
     universe: &Universe<'_, '_>,
     reached: &Reached<'_, '_, '_>,
     encoding: &Encoding<'_>,
-    found: &Found,
+    derivation: &Derivation,
 ) -> Result<Option<Refutation>, AllocError>
     requires few { length universe.now.pairs < 2 ^ 32 }
     requires distinct { HaveDistinctNames universe.now.starts }
     ensures { IfOk result (IsJudged universe.now) }
 {
     one_answer();
-    let refutation = refutation_of(alloc, reached, encoding, found)?;
+    let refutation = refutation_of(alloc, reached, encoding, derivation)?;
     let writable = is_writable(alloc, &refutation)?;
     if !writable {
         return Ok(None);

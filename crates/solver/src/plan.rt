@@ -46,7 +46,7 @@ fn judged_plan<'p, 'a>(
 /// Makes an acceptable and locally minimal selection, ascending numbers of pairs, into a plan, from a quiet start: it is put in
 /// order, a plain change in the fixed one, and the plan is judged; or answers the steps after which it is stuck. Costs what
 /// `order_selection` and `check_plan` cost. Memory alone can fail.
-pub(crate) fn planned<'p, 'a>(
+pub(crate) fn plan_selection<'p, 'a>(
     alloc: Global,
     start: &Records<'p, 'a>,
     universe: &Universe<'_, 'a>,
@@ -61,8 +61,8 @@ pub(crate) fn planned<'p, 'a>(
     ensures solved { IfOk result (λ solved. IsSolved universe.now start.now limit solved) }
     ensures settled { IfOk result (λ solved. IsOfSelection solved) }
 {
-    let found = order_selection(alloc, start, universe, selection)?;
-    match found {
+    let ordering = order_selection(alloc, start, universe, selection)?;
+    match ordering {
         Ordered::Plan(steps) => judged_plan(alloc, start, universe, steps, limit),
         Ordered::Stuck(steps) => Ok(Solved::Undecided(Undecided::Stuck(steps))),
         Ordered::Start => Ok(Solved::Undecided(Undecided::Start)),

@@ -2,34 +2,34 @@
 
 ghost use Rattle.std.specs.Prelude.{IfOk};
 ghost use Rattle.encode.specs.Encoding.{IsEncoding};
-ghost use Rattle.part.specs.Part.{IsClosedPart, IsPart};
+ghost use Rattle.closed_part.specs.Part.{IsClosedPart, IsPart};
 ghost use Rattle.rules.specs.Database.{IsQuiet};
 ghost use Rattle.search.specs.Found.{IsAnswer};
 ghost use Rattle.solver.specs.Solvable.{IsSolvable};
 ghost use Rattle.solver.specs.Solved.{IsAnswerTo, IsOfRefutation, IsSolved};
 
-use crate::judged::judged;
-use crate::lift::settled;
-use crate::plan::planned;
+use crate::judged::accepted_refutation;
+use crate::lift::settle_selection;
+use crate::plan::plan_selection;
 use crate::solved::{Solved, Undecided};
+use closed_part::choice_of_part;
 use encode::{Encoding, encode_part};
-use part::choice_of_part;
 use plancheck::is_quiet;
 use plancheck_state::Records;
 use reach::{Reached, reach};
-use search::{Found, Refutation, search};
+use search::{Derivation, SearchAnswer, search};
 use search_settle::standing_records_are_present;
 use std::alloc::{AllocError, Global};
 use universe::Universe;
 
 // Has judged what was found as a refutation.
-fn refuted(
+fn answer_of_refutation(
     alloc: Global,
     start: &Records<'_, '_>,
     universe: &Universe<'_, '_>,
     reached: &Reached<'_, '_, '_>,
     encoding: &Encoding<'_>,
-    found: &Refutation,
+    derivation: &Derivation,
     limit: u32,
 ) -> Result<Solved, AllocError>
     requires solvable { IsSolvable start.now universe.now }
@@ -38,7 +38,7 @@ fn refuted(
     ensures answer { IfOk result (λ solved. IsOfRefutation solved) }
 {
     let (_start, _limit) = (start, limit);
-    match judged(alloc, universe, reached, encoding, found)? {
+    match accepted_refutation(alloc, universe, reached, encoding, derivation)? {
         Some(refutation) => Ok(Solved::Refuted(refutation)),
         None => Ok(Solved::Undecided(Undecided::Unchecked)),
     }
@@ -51,7 +51,7 @@ fn answer_of<'p, 'a>(
     universe: &Universe<'_, 'a>,
     reached: &Reached<'_, '_, '_>,
     encoding: &Encoding<'_>,
-    found: &Found,
+    outcome: &SearchAnswer,
     limit: u32,
 ) -> Result<Solved, AllocError>
     requires solvable { IsSolvable start.now universe.now }
@@ -59,23 +59,25 @@ fn answer_of<'p, 'a>(
     requires part { IsPart universe.now reached.now.numbers.items reached.now.part }
     requires closed { IsClosedPart universe.now reached.now.numbers.items }
     requires encoding { IsEncoding reached.now.part encoding.now }
-    requires found { IsAnswer encoding.now.clauses limit found.now }
+    requires outcome { IsAnswer encoding.now.clauses limit outcome.now }
     ensures solved { IfOk result (λ solved. IsSolved universe.now start.now limit solved) }
-    ensures answer { IfOk result (λ solved. IsAnswerTo found.now solved) }
+    ensures answer { IfOk result (λ solved. IsAnswerTo outcome.now solved) }
 {
     choice_of_part();
     standing_records_are_present();
-    match found {
-        Found::Selection(numbers) => {
-            let settled = settled(alloc, universe, reached, encoding, numbers.as_slice())?;
-            let solved = planned(alloc, start, universe, settled.as_slice(), limit)?;
+    match outcome {
+        SearchAnswer::Selection(numbers) => {
+            let settled = settle_selection(alloc, universe, reached, encoding, numbers.as_slice())?;
+            let solved = plan_selection(alloc, start, universe, settled.as_slice(), limit)?;
             Ok(solved)
         }
-        Found::Refutation(refutation) => {
-            let solved = refuted(alloc, start, universe, reached, encoding, refutation, limit)?;
+        SearchAnswer::Refutation(refutation) => {
+            let solved = answer_of_refutation(
+                alloc, start, universe, reached, encoding, refutation, limit,
+            )?;
             Ok(solved)
         }
-        Found::Limit(spent) => Ok(Solved::Undecided(Undecided::Limit(*spent))),
+        SearchAnswer::Limit(spent) => Ok(Solved::Undecided(Undecided::Limit(*spent))),
     }
 }
 
@@ -96,8 +98,8 @@ fn search_by<'p, 'a>(
     ensures { IfOk result (λ solved. IsSolved universe.now start.now limit solved) }
 {
     let clauses = encoding.clauses();
-    let found = search(alloc, clauses, limit)?;
-    let solved = answer_of(alloc, start, universe, reached, encoding, &found, limit)?;
+    let outcome = search(alloc, clauses, limit)?;
+    let solved = answer_of(alloc, start, universe, reached, encoding, &outcome, limit)?;
     Ok(solved)
 }
 

@@ -6,7 +6,7 @@ use Rattle.std.proofs.Math.Seq.{take-add}
 use Rattle.stanza.specs.declared.form.Form.{Form}
 use Rattle.stanza.specs.declared.error.StanzaError.{StanzaError}
 use Rattle.stanza.specs.declared.known.Known.{Known}
-use Rattle.stanza.specs.declared.starts.Start.{Start}
+use Rattle.stanza.specs.declared.starts.FieldStart.{FieldStart}
 use Rattle.stanza.specs.Line.{lines_of, begins_field, is_comment, is_separator, IsWhole}
 use Rattle.stanza.specs.Field.{name_of, names_of}
 use Rattle.stanza.specs.Fault.{is_open, fault_of, first_fault, or_then}
@@ -102,7 +102,7 @@ pub record StepsBy (text later : List ℕ) (offset most : ℕ) : Type 0 where
   pub longer : ltb most (length (text ++ later)) ≡ ltb (most - offset) (length (drop offset text ++ later))
 
 -- the lines up to an offset are read: none parts stanzas, none has a fault, and the fields end at `end`
-pub record Reads (is_over : Bool) (form : Form) (n : ℕ) (text : List ℕ) (offset lines end : ℕ) (opened : Bool) (known : Known) (starts : List Start) : Type 0 where
+pub record Reads (is_over : Bool) (form : Form) (n : ℕ) (text : List ℕ) (offset lines end : ℕ) (opened : Bool) (known : Known) (starts : List FieldStart) : Type 0 where
   pub within : offset ≤ length text
   pub count : lines ≡ length (lines_of (take offset text))
   pub each : lines ≤ offset
@@ -137,7 +137,7 @@ Reads-none is_over form n text known none = record {
   first = λ some. absurd (omega (arith, some));
 }
 
-module _ (is_over : Bool) (form : Form) (n : ℕ) (text : List ℕ) (offset lines end : ℕ) (opened : Bool) (known : Known) (starts : List Start) (len : ℕ) where
+module _ (is_over : Bool) (form : Form) (n : ℕ) (text : List ℕ) (offset lines end : ℕ) (opened : Bool) (known : Known) (starts : List FieldStart) (len : ℕ) where
   -- something follows what was read
   more-behind : EndsLine is_over (drop offset text) len → is_over ≡ true → 0 < length (drop offset text)
   more-behind ends over = omega (arith, ends.some, ends.within)
@@ -169,7 +169,7 @@ module _ (is_over : Bool) (form : Form) (n : ℕ) (text : List ℕ) (offset line
     | inr none ↦ let z : offset ≡ 0 = omega (arith, none) in (take len (drop offset text), [], lines-more reads ends ∙ ap (λ k. lines_of (take k text) ++ take len (drop offset text) ∷ []) z, begins z)
   ]
 
-  pub Reads-more : (later-known : Known) (later-starts : List Start) → Reads is_over form n text offset lines end opened known starts → EndsLine is_over (drop offset text) len
+  pub Reads-more : (later-known : Known) (later-starts : List FieldStart) → Reads is_over form n text offset lines end opened known starts → EndsLine is_over (drop offset text) len
       → is_separator (take len (drop offset text)) ≡ false → (offset ≡ 0 → is_comment form (take len (drop offset text)) ≡ false)
       → fault_of form (lines_of (take offset text)) (n + lines) (take len (drop offset text)) ≡ None
       → AreKnown later-known (names_of form (lines_of (take offset text) ++ take len (drop offset text) ∷ []))
@@ -240,7 +240,7 @@ starts-kept form at n (line ∷ lines) =
     comments-start form at n line (without_last_comments form lines)
     ∙ ap (λ x. cond (begins_field form line) (record { at = at; name_len = length (name_of line); line = n } ∷ x) x) (starts-kept form (at + length line) (n + 1) lines)
 
-module _ (is_over : Bool) (form : Form) (n : ℕ) (text : List ℕ) (offset lines end : ℕ) (opened : Bool) (known : Known) (starts : List Start) where
+module _ (is_over : Bool) (form : Form) (n : ℕ) (text : List ℕ) (offset lines end : ℕ) (opened : Bool) (known : Known) (starts : List FieldStart) where
   the-stanza : Reads is_over form n text offset lines end opened known starts → 0 < offset → stanza_in form n (lines_of (take offset text)) ≡ Some (stanza_of form n (lines_of (take end text)))
   the-stanza reads some =
       let f = reads.first some in

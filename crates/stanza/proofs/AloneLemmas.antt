@@ -110,8 +110,8 @@ ok-same e = cc
 ok-err : {x : StanzaText} {e : StanzaError} → ◌≡◌ {A = Result StanzaText StanzaError} (Err e) (Ok x) → ⊥
 ok-err h = cc
 
-origin-before : (form : Form) (stanza : StanzaText) (fault : Option StanzaError) (found : Option StanzaText) (later : Items) → (Contains later (Ok stanza) → Origin form stanza) → (fault ≡ None → found ≡ Some stanza → Origin form stanza) → Contains (before_items fault found later) (Ok stanza) → Origin form stanza
-origin-before form stanza (Some fault) found later behind here has = elim (contains-cons (Err fault) [] (Ok stanza) has) [
+origin-before : (form : Form) (stanza : StanzaText) (fault : Option StanzaError) (read : Option StanzaText) (later : Items) → (Contains later (Ok stanza) → Origin form stanza) → (fault ≡ None → read ≡ Some stanza → Origin form stanza) → Contains (before_items fault read later) (Ok stanza) → Origin form stanza
+origin-before form stanza (Some fault) read later behind here has = elim (contains-cons (Err fault) [] (Ok stanza) has) [
   | inl e ↦ absurd (ok-err e)
   | inr none ↦ absurd (contains-nil (Ok stanza) none)
 ]
@@ -266,8 +266,8 @@ IsAlone-from form stanza a =
 pub alone-from_items : (form : Form) (text : List ℕ) (stanza : StanzaText) → Contains (items_of form text) (Ok stanza) → Alone form stanza
 unfolding items_of
 alone-from_items form text stanza has =
-    let found = origin form stanza 1 (slice_split is_separator (lines_of text)) (split-parts (lines_of text) (AreLines-lines_of text)) has in
-    alone-in form stanza found.n found.part found.is_part found.clean found.is
+    let origin_is = origin form stanza 1 (slice_split is_separator (lines_of text)) (split-parts (lines_of text) (AreLines-lines_of text)) has in
+    alone-in form stanza origin_is.n origin_is.part origin_is.is_part origin_is.clean origin_is.is
 
 pub items_of-IsAlone : (form : Form) (text : List ℕ) (stanza : StanzaText) → Contains (items_of form text) (Ok stanza) → IsAlone form stanza
 items_of-IsAlone form text stanza has = IsAlone-from form stanza (alone-from_items form text stanza has)

@@ -108,8 +108,8 @@ unfolding fault_in
 stanzas-from_items form n parts stanzas is =
     let clean : parts_fault form n parts ≡ None =
     sym (fault_in-parts form n parts) ∙ ap fault_in (is ∙ sym (append-nil (map Ok stanzas))) ∙ fault_in-stanzas stanzas [] in
-    let found = stanzas-from_clean form n parts clean in
-    subst (AreStanzas form n parts) (map_Ok-same found.0 stanzas (sym (items-from_stanzas form n parts found.0 found.1) ∙ is)) found.1
+    let read = stanzas-from_clean form n parts clean in
+    subst (AreStanzas form n parts) (map_Ok-same read.0 stanzas (sym (items-from_stanzas form n parts read.0 read.1) ∙ is)) read.1
 
 -- ---- the fault at the end
 
@@ -123,7 +123,7 @@ ends-before : (first : Option StanzaError) (stanza : Option StanzaText) (later :
 unfolding EndsWith
 ends-before (Some x) stanza later rest fault ends h = ([], ap (λ e. Err e ∷ []) (some-same h))
 ends-before None None later rest fault ends h = ends h
-ends-before None (Some stanza) later rest fault ends h = let found = ends h in (stanza ∷ found.0, ap (λ x. Ok stanza ∷ x) found.1)
+ends-before None (Some stanza) later rest fault ends h = let later_is = ends h in (stanza ∷ later_is.0, ap (λ x. Ok stanza ∷ x) later_is.1)
 
 ends-from_fault : (form : Form) (n : ℕ) (parts : List (List (List ℕ))) (fault : StanzaError) → parts_fault form n parts ≡ Some fault → EndsWith (items_of_parts form n parts) fault
 unfolding parts_fault
@@ -305,20 +305,20 @@ one_more form front line clean =
 
 bad-from_fault : (form : Form) (text : List ℕ) (fault : StanzaError) → lines_fault form [] 1 (lines_of text) ≡ Some fault → IsBad form text fault
 bad-from_fault form text fault h =
-    let found = faulty form [] 1 (lines_of text) fault h in
-    let count : 1 + length found.front ≡ length found.front + 1 = omega arith in
-    let more : lines_fault form [] 1 (found.front ++ found.line ∷ []) ≡ Some fault =
-    one_more form found.front found.line found.clean
-    ∙ ap (λ s. cond s None (or_then (fault_of form (last_part [] found.front) (1 + length found.front) found.line) None)) found.inside
-    ∙ ap (λ f. or_then f None) found.here in
+    let faulty_at = faulty form [] 1 (lines_of text) fault h in
+    let count : 1 + length faulty_at.front ≡ length faulty_at.front + 1 = omega arith in
+    let more : lines_fault form [] 1 (faulty_at.front ++ faulty_at.line ∷ []) ≡ Some fault =
+    one_more form faulty_at.front faulty_at.line faulty_at.clean
+    ∙ ap (λ s. cond s None (or_then (fault_of form (last_part [] faulty_at.front) (1 + length faulty_at.front) faulty_at.line) None)) faulty_at.inside
+    ∙ ap (λ f. or_then f None) faulty_at.here in
     record {
-      before = found.front;
-      line = found.line;
-      after = found.after;
-      lines = found.joined;
-      allowed = clean-grouped form found.front found.clean;
-      refused = λ stanzas are. different (sym (grouped-clean form (found.front ++ found.line ∷ []) stanzas are) ∙ more);
-      reason = fault-reason form (last_part [] found.front) (1 + length found.front) found.line fault found.here ∙ ap (λ k. reason_of k found.line) count;
+      before = faulty_at.front;
+      line = faulty_at.line;
+      after = faulty_at.after;
+      lines = faulty_at.joined;
+      allowed = clean-grouped form faulty_at.front faulty_at.clean;
+      refused = λ stanzas are. different (sym (grouped-clean form (faulty_at.front ++ faulty_at.line ∷ []) stanzas are) ∙ more);
+      reason = fault-reason form (last_part [] faulty_at.front) (1 + length faulty_at.front) faulty_at.line fault faulty_at.here ∙ ap (λ k. reason_of k faulty_at.line) count;
     }
 
 fault-from_bad : (form : Form) (text : List ℕ) (fault : StanzaError) → IsBad form text fault → lines_fault form [] 1 (lines_of text) ≡ Some fault
@@ -333,7 +333,7 @@ fault-from_bad form text fault bad =
     λ x is. fault-reason form (last_part [] bad.before) n bad.line x is ∙ ap (λ k. reason_of k bad.line) number ∙ sym bad.reason in
     let first : lines_fault form [] 1 (bad.before ++ bad.line ∷ []) ≡ Some fault =
     go (lines_fault form [] 1 (bad.before ++ bad.line ∷ [])) (is_separator bad.line) here refl more known
-    (λ none. let found = clean-grouped form (bad.before ++ bad.line ∷ []) none in bad.refused found.0 found.1) in
+    (λ none. let grouped = clean-grouped form (bad.before ++ bad.line ∷ []) none in bad.refused grouped.0 grouped.1) in
     ap (lines_fault form [] 1) joined
     ∙ lines_fault-append form [] 1 (bad.before ++ bad.line ∷ []) bad.after
     ∙ ap (λ f. or_then f (lines_fault form (last_part [] (bad.before ++ bad.line ∷ [])) (1 + length (bad.before ++ bad.line ∷ [])) bad.after)) first where

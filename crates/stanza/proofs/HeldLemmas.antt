@@ -4,12 +4,12 @@ use Rattle.std.proofs.lemmas.List.{drop-append-le, drop-drop, length-append, len
 use Rattle.std.proofs.lemmas.Bool.{lt-ltb}
 use Rattle.std.specs.Io.KnownBytes.{Consumes}
 use Rattle.stanza.specs.declared.form.Form.{Form}
-use Rattle.stanza.specs.declared.error.ReadError.TheVariants.{TooLarge}
+use Rattle.stanza.specs.declared.error.ReaderError.TheVariants.{TooLarge}
 use Rattle.stanza.specs.declared.ahead.Ahead.{Ahead}
 use Rattle.stanza.specs.declared.held.Held.{Held}
 use Rattle.stanza.specs.declared.held.Cut.{Cut}
 use Rattle.stanza.specs.declared.held.Cut.TheVariants as cut
-use Rattle.stanza.specs.declared.starts.Start.{Start}
+use Rattle.stanza.specs.declared.starts.FieldStart.{FieldStart}
 use Rattle.stanza.specs.Starts.{starts_of}
 use Rattle.stanza.specs.Line.{lines_of}
 use Rattle.stanza.specs.Stanza.{stanza_of}
@@ -150,11 +150,11 @@ IsOpen-none form n later follows =
     rw (lt-ltb 0 (length later) follows) refl
 
 -- a stanza that is found behind a gap
-pub stanza-gives : (old held new : Held) (ahead : Ahead) (found : Option Ahead) (starts : List Start) (is_over : Bool) (form : Form) → found ≡ Some ahead
-    → FindsAhead is_over form (held.before + 1) (pending_of held) starts found
+pub stanza-gives : (old held new : Held) (ahead : Ahead) (answer : Option Ahead) (starts : List FieldStart) (is_over : Bool) (form : Form) → answer ≡ Some ahead
+    → FindsAhead is_over form (held.before + 1) (pending_of held) starts answer
     → ((left : List ℕ) → MayFollow is_over left → read_of form old left ≡ read_of form held left) → total_of held ≤ total_of old → Moves held new ahead.len ahead.lines
     → GivesStanza is_over form old new starts (record { from = held.begin; len = ahead.end; line = held.before + 1 })
-stanza-gives old held new ahead found starts is_over form is finds gap total moves =
+stanza-gives old held new ahead answer starts is_over form is finds gap total moves =
     let f = subst (FindsAhead is_over form (held.before + 1) (pending_of held) starts) is finds in
     let raw : take ahead.end (pending_of held) ≡ take ahead.end (drop held.begin (filled_of new)) = ap (λ b. take ahead.end (drop held.begin b)) (sym moves.bytes) in
     record {
@@ -176,5 +176,5 @@ filled-read form old new left more fills =
     ∙ ap (λ k. read_within form (new.before + 1) k (pending_of old ++ left)) fills.most
     ∙ ap (λ x. read_within form (new.before + 1) (length (pending_of new) + new.room) x) fills.text
 
-pub needs-more : (is_over : Bool) (form : Form) (old new : Held) (starts : List Start) (found : Cut) → found ≡ cut.More → IsCut is_over form old new starts found → NeedsMore is_over form old new
-needs-more is_over form old new starts found is finds = subst (IsCut is_over form old new starts) is finds
+pub needs-more : (is_over : Bool) (form : Form) (old new : Held) (starts : List FieldStart) (answer : Cut) → answer ≡ cut.More → IsCut is_over form old new starts answer → NeedsMore is_over form old new
+needs-more is_over form old new starts answer is finds = subst (IsCut is_over form old new starts) is finds

@@ -27,10 +27,10 @@ lines_of-last (b ∷ c ∷ bs) some none =
 
 -- the text is cut where `memchr` found the first newline, or at its end
 pub CutsLine-at : (text : List ℕ) (k : ℕ) → IsFirstByte (is_byte 10) text (Some k) → CutsLine text (take (suc k) text) (drop (suc k) text)
-CutsLine-at text k found =
-    let fits : k < length text = found.0.high in
-    let here : get_or text k 0 ≡ 10 = eqb-true (get_or text k 0) 10 found.1 in
-    let none : (j : ℕ) → j < k → get_or text j 0 ≡ 10 → ⊥ = λ j h e. found.0.before j (omega arith) h (eq-eqb (get_or text j 0) 10 e) in
+CutsLine-at text k first_newline =
+    let fits : k < length text = first_newline.0.high in
+    let here : get_or text k 0 ≡ 10 = eqb-true (get_or text k 0) 10 first_newline.1 in
+    let none : (j : ℕ) → j < k → get_or text j 0 ≡ 10 → ⊥ = λ j h e. first_newline.0.before j (omega arith) h (eq-eqb (get_or text j 0) 10 e) in
     let line = lines_of-line text k fits none here in
     let alone : lines_of (take (suc k) text) ≡ take (suc k) text ∷ [] = ap lines_of (sym (append-nil (take (suc k) text))) ∙ line [] in
     record {

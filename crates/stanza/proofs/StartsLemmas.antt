@@ -6,7 +6,7 @@ use Rattle.std.proofs.lemmas.Bool.{cases_Bool}
 use Rattle.std.proofs.lemmas.List.{append-nil, length-append, drop_at}
 use Rattle.std.specs.List.{concat, onto_first}
 use Rattle.stanza.specs.declared.form.Form.{Form}
-use Rattle.stanza.specs.declared.starts.Start.{Start}
+use Rattle.stanza.specs.declared.starts.FieldStart.{FieldStart}
 use Rattle.stanza.specs.Line.{lines_of, begins_field}
 use Rattle.stanza.specs.Field.{name_of, names_of, field_of, fields_of, continued}
 use Rattle.stanza.specs.Starts.{starts_of, name_at, field_at, first_field}
@@ -18,7 +18,7 @@ take-again (suc k) [] x = refl
 take-again (suc k) (b ∷ l) x = ap (λ r. b ∷ r) (take-again k l x)
 
 -- the start of a line's field, behind these bytes
-abbrev pub start_behind : List ℕ → ℕ → List ℕ → Start
+abbrev pub start_behind : List ℕ → ℕ → List ℕ → FieldStart
 start_behind front n line = record { at = length front; name_len = length (name_of line); line = n }
 
 at-behind : (front line : List ℕ) (lines : List (List ℕ)) (n : ℕ) → name_at (front ++ concat (line ∷ lines)) (start_behind front n line) ≡ name_of line
@@ -107,7 +107,7 @@ fields-at form n raw = subst (λ (text : List ℕ). map (field_at text) (starts_
 -- ---- what a reader notes
 
 -- the names that begin where a reader has noted are those of the lines
-pub names-noted : (form : Form) (n : ℕ) (raw : List ℕ) (starts : List Start) → starts ≡ starts_of form 0 n (lines_of raw) → map (name_at raw) starts ≡ names_of form (lines_of raw)
+pub names-noted : (form : Form) (n : ℕ) (raw : List ℕ) (starts : List FieldStart) → starts ≡ starts_of form 0 n (lines_of raw) → map (name_at raw) starts ≡ names_of form (lines_of raw)
 names-noted form n raw starts are = ap (map (name_at raw)) are ∙ names-at form n raw
 
 -- a line that begins no field adds none
@@ -123,8 +123,8 @@ starts-field form n number raw line name begins is count =
 
 -- ---- what is found on a line
 
-pub none-found : (form : Form) (opened : Bool) (number : ℕ) (line : List ℕ) (found : Option (Bor (List ℕ))) → found ≡ None → FindsName form opened number line found → begins_field form line ≡ false
-none-found form opened number line found is finds = (subst (FindsName form opened number line) is finds).0
+pub none-found : (form : Form) (opened : Bool) (number : ℕ) (line : List ℕ) (answer : Option (Bor (List ℕ))) → answer ≡ None → FindsName form opened number line answer → begins_field form line ≡ false
+none-found form opened number line answer is finds = (subst (FindsName form opened number line) is finds).0
 
-pub name-found : (form : Form) (opened : Bool) (number : ℕ) (line : List ℕ) (name : Bor (List ℕ)) (found : Option (Bor (List ℕ))) → found ≡ Some name → FindsName form opened number line found → IsNameOn form line name.now
-name-found form opened number line name found is finds = subst (FindsName form opened number line) is finds
+pub name-found : (form : Form) (opened : Bool) (number : ℕ) (line : List ℕ) (name : Bor (List ℕ)) (answer : Option (Bor (List ℕ))) → answer ≡ Some name → FindsName form opened number line answer → IsNameOn form line name.now
+name-found form opened number line name answer is finds = subst (FindsName form opened number line) is finds

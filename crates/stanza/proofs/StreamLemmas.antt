@@ -7,8 +7,8 @@ use Rattle.std.specs.List.{slice_split}
 use Rattle.stanza.specs.declared.form.Form.{Form}
 use Rattle.memchr.specs.Find.{IsFirstByte, is_byte}
 use Rattle.stanza.specs.declared.error.StanzaError.{StanzaError}
-use Rattle.stanza.specs.declared.error.ReadError.{ReadError}
-use Rattle.stanza.specs.declared.error.ReadError.TheVariants.{Refused, TooLarge}
+use Rattle.stanza.specs.declared.error.ReaderError.{ReaderError}
+use Rattle.stanza.specs.declared.error.ReaderError.TheVariants.{Refused, TooLarge}
 use Rattle.stanza.specs.Line.{lines_of, is_comment, is_separator}
 use Rattle.stanza.specs.Fault.{fault_of, first_fault}
 use Rattle.stanza.specs.Stanza.{StanzaText, stanza_in, before_items, items_of, items_of_parts}
@@ -36,10 +36,10 @@ no-newline text none = no-newline-at text (λ j h e. none j (omega arith) h (eq-
 
 -- the line ends at the first newline
 pub EndsLine-at : (is_over : Bool) (text : List ℕ) (k : ℕ) → IsFirstByte (is_byte 10) text (Some k) → EndsLine is_over text (suc k)
-EndsLine-at is_over text k found =
-    let fits : k < length text = found.0.high in
-    let here : get_or text k 0 ≡ 10 = eqb-true (get_or text k 0) 10 found.1 in
-    let none : (j : ℕ) → j < k → get_or text j 0 ≡ 10 → ⊥ = λ j h e. found.0.before j (omega arith) h (eq-eqb (get_or text j 0) 10 e) in
+EndsLine-at is_over text k first_newline =
+    let fits : k < length text = first_newline.0.high in
+    let here : get_or text k 0 ≡ 10 = eqb-true (get_or text k 0) 10 first_newline.1 in
+    let none : (j : ℕ) → j < k → get_or text j 0 ≡ 10 → ⊥ = λ j h e. first_newline.0.before j (omega arith) h (eq-eqb (get_or text j 0) 10 e) in
     let line = lines_of-line text k fits none here in
     record {
       some = omega arith;
@@ -196,7 +196,7 @@ pub text-read : (form : Form) (text : List ℕ) (most : ℕ) → length text ≤
 unfolding items_of
 text-read form text most fits = rw (le-ltb most (length text) fits) (parts-read form 1 (slice_split is_separator (lines_of text)))
 
-before-refused : (fault : Option StanzaError) (stanza : Option StanzaText) (later : List (Result StanzaText ReadError)) → EndsRefused later → EndsRefused (before_read fault stanza later)
+before-refused : (fault : Option StanzaError) (stanza : Option StanzaText) (later : List (Result StanzaText ReaderError)) → EndsRefused later → EndsRefused (before_read fault stanza later)
 before-refused (Some fault) stanza later ends = ([], Refused fault, refl)
 before-refused None None later ends = ends
 before-refused None (Some stanza) later ends = (stanza ∷ ends.0, ends.1, ap (λ x. Ok stanza ∷ x) ends.2)

@@ -8,7 +8,7 @@ use Rattle.stanza.specs.declared.form.Form.{Form}
 use Rattle.stanza.specs.declared.form.Form.TheVariants.{Plain}
 use Rattle.stanza.specs.Line.{lines_of, begins_field, is_comment, is_continuation, is_white}
 use Rattle.stanza.specs.Field.{name_of, field_of, continued, is_colon, value_of}
-use Rattle.stanza.specs.Starts.{behind_colon, trimmed, starts_of, first_field, first_at, bytes_between, IsOneField, IsWithin, AreWithin}
+use Rattle.stanza.specs.Starts.{behind_colon, trim, starts_of, first_field, first_at, bytes_between, IsOneField, IsWithin, AreWithin}
 use Rattle.stanza.proofs.AloneLemmas.{AreLines, AreLines-lines_of, AreLines-front, lines_of-concat}
 use Rattle.stanza.proofs.LineLemmas.{concat-lines_of}
 use Rattle.stanza.proofs.StartsLemmas.{take-again, start_behind}
@@ -48,12 +48,12 @@ behind (b ∷ bs) more none = elim (cases_Bool (is_colon b)) [
       rw (rest, front) e
 
 -- what stands behind the name of a field's lines is its value
-pub value-behind : (n : ℕ) (bytes : List ℕ) → IsOneField bytes → trimmed (behind_colon (drop (length ((first_field n (lines_of bytes)).name)) bytes)) ≡ (first_field n (lines_of bytes)).value
+pub value-behind : (n : ℕ) (bytes : List ℕ) → IsOneField bytes → trim (behind_colon (drop (length ((first_field n (lines_of bytes)).name)) bytes)) ≡ (first_field n (lines_of bytes)).value
 value-behind n bytes one =
     let joined : bytes ≡ one.line ++ concat one.more = sym (concat-lines_of bytes) ∙ ap concat one.lines in
     rw one.lines (
-    ap (λ (text : List ℕ). trimmed (behind_colon (drop (length (name_of one.line)) text))) joined
-    ∙ ap trimmed (behind one.line (concat one.more) (behind-none one.more one.all))
+    ap (λ (text : List ℕ). trim (behind_colon (drop (length (name_of one.line)) text))) joined
+    ∙ ap trim (behind one.line (concat one.more) (behind-none one.more one.all))
     ∙ ap (value_of one.line) (sym one.all)
     )
 

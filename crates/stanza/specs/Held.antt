@@ -1,14 +1,14 @@
 -- Bytes that were read and wait to be cut into stanzas.
 use Rattle.std.specs.Prelude.{◌≡◌, ℕ, ◌+◌, ◌-◌, ◌<◌, ◌≤◌, ◌^◌, Bool, true, false, List, [], ◌∷◌, ◌++◌, length, take, drop, Option, None, Some, Result, Ok, Err}
 use Rattle.stanza.specs.declared.form.Form.{Form}
-use Rattle.stanza.specs.declared.error.ReadError.{ReadError}
-use Rattle.stanza.specs.declared.error.ReadError.TheVariants.{Refused, TooLarge}
+use Rattle.stanza.specs.declared.error.ReaderError.{ReaderError}
+use Rattle.stanza.specs.declared.error.ReaderError.TheVariants.{Refused, TooLarge}
 use Rattle.stanza.specs.declared.error.StanzaError.{StanzaError}
 use Rattle.stanza.specs.declared.held.Cut.{Cut}
 use Rattle.stanza.specs.declared.held.Cut.TheVariants as cut
 use Rattle.stanza.specs.declared.held.Held.{Held}
-use Rattle.stanza.specs.declared.held.Place.{Place}
-use Rattle.stanza.specs.declared.starts.Start.{Start}
+use Rattle.stanza.specs.declared.held.StanzaPlace.{StanzaPlace}
+use Rattle.stanza.specs.declared.starts.FieldStart.{FieldStart}
 use Rattle.stanza.specs.Line.{lines_of}
 use Rattle.stanza.specs.Stanza.{StanzaText, stanza_of}
 use Rattle.stanza.specs.Starts.{starts_of}
@@ -33,19 +33,19 @@ abbrev pub total_of : Held → ℕ
 total_of held = length (pending_of held) + held.room
 
 -- what is still to be answered, where these bytes are left in the source
-abbrev pub read_of : Form → Held → List ℕ → List (Result StanzaText ReadError)
+abbrev pub read_of : Form → Held → List ℕ → List (Result StanzaText ReaderError)
 read_of form held left = read_within form (held.before + 1) (length (pending_of held) + held.room) (pending_of held ++ left)
 
 -- the bytes of a stanza
-abbrev pub raw_at : List ℕ → Place → List ℕ
+abbrev pub raw_at : List ℕ → StanzaPlace → List ℕ
 raw_at bytes place = take place.len (drop place.from bytes)
 
 -- the stanza that stands there
-abbrev pub stanza_at : Form → List ℕ → Place → StanzaText
+abbrev pub stanza_at : Form → List ℕ → StanzaPlace → StanzaText
 stanza_at form bytes place = stanza_of form place.line (lines_of (raw_at bytes place))
 
 -- a stanza stands there, whose fields begin so
-pub record IsPlaced (form : Form) (bytes : List ℕ) (place : Place) (starts : List Start) : Type 0 where
+pub record IsPlaced (form : Form) (bytes : List ℕ) (place : StanzaPlace) (starts : List FieldStart) : Type 0 where
   pub some : 0 < length (raw_at bytes place)
   pub starts_are : starts ≡ starts_of form 0 place.line (lines_of (raw_at bytes place))
 
@@ -56,7 +56,7 @@ pub record FillsWith (old new : Held) (left more : List ℕ) : Type 0 where
   pub before : old.before ≡ new.before
 
 -- what is still to be answered begins with a stanza that stands there, and goes on with what the new ones have
-pub record GivesStanza (is_over : Bool) (form : Form) (old new : Held) (starts : List Start) (place : Place) : Type 0 where
+pub record GivesStanza (is_over : Bool) (form : Form) (old new : Held) (starts : List FieldStart) (place : StanzaPlace) : Type 0 where
   pub placed : IsPlaced form (filled_of new) place starts
   pub less : total_of new < total_of old
   pub read : (left : List ℕ) → MayFollow is_over left → read_of form old left ≡ Ok (stanza_at form (filled_of new) place) ∷ read_of form new left
@@ -74,7 +74,7 @@ pub record NeedsMore (is_over : Bool) (form : Form) (old new : Held) : Type 0 wh
   pub large : (left : List ℕ) → 0 < length left → new.room ≡ 0 → read_of form new left ≡ Err TooLarge ∷ []
 
 -- what was found in the bytes that are held
-abbrev pub IsCut : Bool → Form → Held → Held → List Start → Cut → Type 0
+abbrev pub IsCut : Bool → Form → Held → Held → List FieldStart → Cut → Type 0
 IsCut is_over form old new starts (cut.Stanza place) = GivesStanza is_over form old new starts place
 IsCut is_over form old new starts cut.Nothing = GivesNothing is_over form old new
 IsCut is_over form old new starts cut.More = NeedsMore is_over form old new
@@ -84,6 +84,6 @@ abbrev pub IsRefused : Bool → Form → Held → StanzaError → Type 0
 IsRefused is_over form held fault = (left : List ℕ) → MayFollow is_over left → read_of form held left ≡ Err (Refused fault) ∷ []
 
 -- what was found of the text that is held and left: a stanza, or that nothing comes
-abbrev pub Finds : Form → Held → Held → List ℕ → List ℕ → Option Place → Type 0
+abbrev pub Finds : Form → Held → Held → List ℕ → List ℕ → Option StanzaPlace → Type 0
 Finds form old new left more None = (read_of form old left ≡ []) × (read_of form new more ≡ [])
 Finds form old new left more (Some place) = read_of form old left ≡ Ok (stanza_at form (filled_of new) place) ∷ read_of form new more

@@ -1,7 +1,7 @@
 -- What a reader of a text that comes piece by piece shows.
 use Rattle.std.specs.Prelude.{◌≡◌, ℕ, ◌+◌, List, [], ◌∷◌, ◌++◌, length, Option, None, Some, Result, Ok}
 use Rattle.stanza.specs.declared.form.Form.{Form}
-use Rattle.stanza.specs.declared.error.ReadError.{ReadError}
+use Rattle.stanza.specs.declared.error.ReaderError.{ReaderError}
 use Rattle.stanza.specs.Stanza.{StanzaText}
 use Rattle.stanza.specs.Streamed.{read_within}
 
@@ -13,18 +13,18 @@ pub record Reading : Type 0 where
   pub pending : List ℕ
   pub room : ℕ
   pub stanza : Option StanzaText
-  pub failed : Option ReadError
+  pub failed : Option ReaderError
 
 -- nothing was read yet
 abbrev pub begins : Form → ℕ → Reading
 begins form most = record { form = form; number = 1; pending = []; room = most; stanza = None; failed = None }
 
 -- what is still to be answered, where these bytes are left
-abbrev pub to_read : Reading → List ℕ → List (Result StanzaText ReadError)
+abbrev pub to_read : Reading → List ℕ → List (Result StanzaText ReaderError)
 to_read reading left = read_within reading.form reading.number (length reading.pending + reading.room) (reading.pending ++ left)
 
 -- what was answered: the stanza that was reached, or that nothing comes
-abbrev pub Reaches : Option StanzaText → List (Result StanzaText ReadError) → List (Result StanzaText ReadError) → Type 0
+abbrev pub Reaches : Option StanzaText → List (Result StanzaText ReaderError) → List (Result StanzaText ReaderError) → Type 0
 Reaches None items later = (items ≡ []) × (later ≡ [])
 Reaches (Some stanza) items later = items ≡ Ok stanza ∷ later
 

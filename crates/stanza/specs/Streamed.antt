@@ -4,11 +4,11 @@ use Rattle.std.specs.Prelude.{◌≡◌, ℕ, ◌+◌, ◌-◌, ◌<◌, ◌≤�
 use Rattle.std.specs.List.{list_any, slice_split}
 use Rattle.stanza.specs.declared.form.Form.{Form}
 use Rattle.stanza.specs.declared.error.StanzaError.{StanzaError}
-use Rattle.stanza.specs.declared.error.ReadError.{ReadError}
-use Rattle.stanza.specs.declared.error.ReadError.TheVariants.{Refused, TooLarge}
+use Rattle.stanza.specs.declared.error.ReaderError.{ReaderError}
+use Rattle.stanza.specs.declared.error.ReaderError.TheVariants.{Refused, TooLarge}
 use Rattle.stanza.specs.declared.ahead.Ahead.{Ahead}
 use Rattle.stanza.specs.declared.lines.TheConstants.{NEWLINE}
-use Rattle.stanza.specs.declared.starts.Start.{Start}
+use Rattle.stanza.specs.declared.starts.FieldStart.{FieldStart}
 use Rattle.stanza.specs.Line.{lines_of, is_comment, is_separator, IsWhole}
 use Rattle.stanza.specs.Fault.{first_fault}
 use Rattle.stanza.specs.Stanza.{StanzaText, stanza_of, stanza_in}
@@ -24,14 +24,14 @@ lines_within most text =
     if nat_lt most (length text) then filter has_newline (lines_of (take most text)) else lines_of text
 
 -- the fault of a part, or else its stanza, and then what is read after it: nothing comes after a fault
-abbrev pub before_read : Option StanzaError → Option StanzaText → List (Result StanzaText ReadError) → List (Result StanzaText ReadError)
+abbrev pub before_read : Option StanzaError → Option StanzaText → List (Result StanzaText ReaderError) → List (Result StanzaText ReaderError)
 before_read (Some fault) stanza later = Err (Refused fault) ∷ []
 before_read None None later = later
 before_read None (Some stanza) later = Ok stanza ∷ later
 
 -- what is read of the parts between separators, of which the first begins at line n: of a text that is longer than may be
 -- read the last part isn't known to end
-abbrev pub read_parts : Bool → Form → ℕ → List (List (List ℕ)) → List (Result StanzaText ReadError)
+abbrev pub read_parts : Bool → Form → ℕ → List (List (List ℕ)) → List (Result StanzaText ReaderError)
 read_parts longer form n [] = []
 read_parts longer form n (part ∷ []) =
     before_read (first_fault form [] n part) (if longer then None else stanza_in form n part) (if longer then Err TooLarge ∷ [] else [])
@@ -39,11 +39,11 @@ read_parts longer form n (part ∷ next ∷ parts) =
     before_read (first_fault form [] n part) (stanza_in form n part) (read_parts longer form (n + length part + 1) (next ∷ parts))
 
 -- what is read of lines from number n on
-abbrev pub read_lines : Bool → Form → ℕ → List (List ℕ) → List (Result StanzaText ReadError)
+abbrev pub read_lines : Bool → Form → ℕ → List (List ℕ) → List (Result StanzaText ReaderError)
 read_lines longer form n lines = read_parts longer form n (slice_split is_separator lines)
 
 -- what is read of a text from line n on, of which no more than so many bytes are read
-abbrev pub read_within : Form → ℕ → ℕ → List ℕ → List (Result StanzaText ReadError)
+abbrev pub read_within : Form → ℕ → ℕ → List ℕ → List (Result StanzaText ReaderError)
 read_within form n most text = read_lines (nat_lt most (length text)) form n (lines_within most text)
 
 -- what may follow bytes: nothing where the text is over
@@ -96,16 +96,16 @@ BeginsAhead is_over form text =
     (len : ℕ) → EndsLine is_over text len → (is_comment form (take len text) || is_separator (take len text)) ≡ false
 
 -- what is found at the front: where a stanza ends and where its fields begin, or that more is needed
-abbrev pub FindsAhead : Bool → Form → ℕ → List ℕ → List Start → Option Ahead → Type 0
+abbrev pub FindsAhead : Bool → Form → ℕ → List ℕ → List FieldStart → Option Ahead → Type 0
 FindsAhead is_over form n text starts None = (is_over ≡ false) × IsOpen form n text
 FindsAhead is_over form n text starts (Some ahead) =
     IsAhead is_over form n text ahead.end ahead.len ahead.lines × (starts ≡ starts_of form 0 n (lines_of (take ahead.end text)))
 
 -- an item of a text as it is read
-abbrev pub as_read : Result StanzaText StanzaError → Result StanzaText ReadError
+abbrev pub as_read : Result StanzaText StanzaError → Result StanzaText ReaderError
 as_read (Ok stanza) = Ok stanza
 as_read (Err fault) = Err (Refused fault)
 
 -- some stanzas, and then a refusal
-abbrev pub EndsRefused : List (Result StanzaText ReadError) → Type 0
-EndsRefused items = (stanzas : List StanzaText) × (error : ReadError) × (items ≡ map Ok stanzas ++ Err error ∷ [])
+abbrev pub EndsRefused : List (Result StanzaText ReaderError) → Type 0
+EndsRefused items = (stanzas : List StanzaText) × (error : ReaderError) × (items ≡ map Ok stanzas ++ Err error ∷ [])

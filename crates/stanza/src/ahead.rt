@@ -6,14 +6,14 @@ ghost use Rattle.stanza.specs.Fault.{is_open, is_repeated, fault_of};
 ghost use Rattle.stanza.specs.Known.{AreKnown};
 ghost use Rattle.stanza.specs.Starts.{starts_of};
 ghost use Rattle.stanza.specs.Streamed.{BeginsAhead, EndsLine, FindsAhead, IsFaulty, SkipsAhead, has_newline};
-ghost use Rattle.stanza.specs.declared.error.ReadError.TheVariants as read_error;
+ghost use Rattle.stanza.specs.declared.error.ReaderError.TheVariants as read_error;
 
-use crate::error::{ReadError, StanzaError};
+use crate::error::{ReaderError, StanzaError};
 use crate::form::Form;
 use crate::front::{end_after, may_repeat, name_on};
 use crate::known::Known;
 use crate::lines::{NEWLINE, is_comment, is_separator};
-use crate::starts::Start;
+use crate::starts::FieldStart;
 use memchr::memchr;
 use std::alloc::AllocError;
 
@@ -71,7 +71,7 @@ pub fn gap_ahead(form: Form, text: &[u8], is_over: bool) -> (usize, usize)
 fn is_known(
     form: Form,
     done: &[u8],
-    starts: &[Start],
+    starts: &[FieldStart],
     known: &mut Known,
     name: &[u8],
 ) -> Result<bool, AllocError>
@@ -94,26 +94,29 @@ fn take_line(
     number: usize,
     line: &[u8],
     known: &mut Known,
-    starts: &mut Vec<Start>,
-) -> Result<(), ReadError>
+    starts: &mut Vec<FieldStart>,
+) -> Result<(), ReaderError>
     requires follows { opened ≡ is_open form (lines_of done.now) }
     requires known { AreKnown known.old (names_of form (lines_of done.now)) }
-    requires starts { (n : ℕ) × (starts.old.items ≡ starts_of form 0 n (lines_of done.now)) × (number ≡ n + length (lines_of done.now)) }
+    requires starts { (n : ℕ) × (starts.old.items ≡ starts_of form 0 n (lines_of done.now))
+        × (number ≡ n + length (lines_of done.now)) }
     ensures clean { IfOk result (λ _. fault_of form (lines_of done.now) number line.now ≡ None) }
-    ensures known { IfOk result (λ _. AreKnown known.new (names_of form (lines_of done.now ++ line.now ∷ []))) }
+    ensures known { IfOk result
+        (λ _. AreKnown known.new (names_of form (lines_of done.now ++ line.now ∷ []))) }
     ensures starts { IfOk result (λ _. (n : ℕ) → number ≡ n + length (lines_of done.now)
         → starts.new.items ≡ starts_of form 0 n (lines_of done.now ++ line.now ∷ [])) }
     ensures fault { IfErr result (λ e. (e ≡ read_error.OutOfMemory)
-        ⊎ ((fault : _) × (e ≡ read_error.Refused fault) × (fault_of form (lines_of done.now) number line.now ≡ Some fault))) }
+        ⊎ ((fault : _) × (e ≡ read_error.Refused fault)
+        × (fault_of form (lines_of done.now) number line.now ≡ Some fault))) }
 {
     let Some(name) = name_on(form, opened, number, line)? else {
         return Ok(());
     };
     if is_known(form, done, starts.as_slice(), known, name)? {
-        return Err(ReadError::Refused(StanzaError::DuplicateField(number)));
+        return Err(ReaderError::Refused(StanzaError::DuplicateField(number)));
     }
     known.add(name);
-    starts.push(Start {
+    starts.push(FieldStart {
         at: done.len(),
         name_len: name.len(),
         line: number,
@@ -128,14 +131,16 @@ pub fn stanza_ahead(
     before: usize,
     text: &[u8],
     is_over: bool,
-    starts: &mut Vec<Start>,
-) -> Result<Option<Ahead>, ReadError>
+    starts: &mut Vec<FieldStart>,
+) -> Result<Option<Ahead>, ReaderError>
     requires some { 0 < length text.now }
     requires begins { BeginsAhead is_over form text.now }
     requires fits { before + length text.now < 2 ^ 64 }
-    ensures found { IfOk result (λ found. FindsAhead is_over form (before + 1) text.now starts.new.items found) }
+    ensures ahead { IfOk result
+        (λ ahead. FindsAhead is_over form (before + 1) text.now starts.new.items ahead) }
     ensures fault { IfErr result (λ e. (e ≡ read_error.OutOfMemory)
-        ⊎ ((fault : _) × (e ≡ read_error.Refused fault) × IsFaulty is_over form (before + 1) text.now fault)) }
+        ⊎ ((fault : _) × (e ≡ read_error.Refused fault)
+        × IsFaulty is_over form (before + 1) text.now fault)) }
 {
     starts.clear();
     let mut known = Known::new(*starts.allocator());

@@ -1,6 +1,6 @@
 //! What is refused in control text, and why none was read.
 ghost use Rattle.std.specs.Prelude.{◌≡◌};
-ghost use Rattle.stanza.specs.declared.error.ReadError.TheVariants as read_error;
+ghost use Rattle.stanza.specs.declared.error.ReaderError.TheVariants as read_error;
 
 use crate::source::ReadFailed;
 use std::alloc::{AllocError, AllocFailed};
@@ -22,7 +22,7 @@ pub enum StanzaError {
 
 /// Why no stanza was read.
 #[derive(Clone, Copy, Debug, PartialEq, Eq, Error)]
-pub enum ReadError {
+pub enum ReaderError {
     /// No control text goes on so.
     #[error("{0}")]
     Refused(StanzaError),
@@ -37,34 +37,34 @@ pub enum ReadError {
     OutOfMemory,
 }
 
-impl From<StanzaError> for ReadError {
+impl From<StanzaError> for ReaderError {
     ghost from_gives = { λ fault e. e ≡ read_error.Refused fault };
 
-    fn from(fault: StanzaError) -> ReadError {
-        ReadError::Refused(fault)
+    fn from(fault: StanzaError) -> ReaderError {
+        ReaderError::Refused(fault)
     }
 }
 
-impl From<ReadFailed> for ReadError {
+impl From<ReadFailed> for ReaderError {
     ghost from_gives = { λ _ e. e ≡ read_error.Read };
 
-    fn from(_e: ReadFailed) -> ReadError {
-        ReadError::Read
+    fn from(_e: ReadFailed) -> ReaderError {
+        ReaderError::Read
     }
 }
 
-impl From<AllocError> for ReadError {
+impl From<AllocError> for ReaderError {
     ghost from_gives = { λ _ e. e ≡ read_error.OutOfMemory };
 
-    fn from(_e: AllocError) -> ReadError {
-        ReadError::OutOfMemory
+    fn from(_e: AllocError) -> ReaderError {
+        ReaderError::OutOfMemory
     }
 }
 
-impl<T: Drop> From<AllocFailed<T>> for ReadError {
+impl<T: Drop> From<AllocFailed<T>> for ReaderError {
     ghost from_gives = { λ _ e. e ≡ read_error.OutOfMemory };
 
-    fn from(_e: AllocFailed<T>) -> ReadError {
-        ReadError::OutOfMemory
+    fn from(_e: AllocFailed<T>) -> ReaderError {
+        ReaderError::OutOfMemory
     }
 }

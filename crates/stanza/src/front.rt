@@ -12,7 +12,7 @@ use crate::error::StanzaError;
 use crate::form::{Form, has_comments};
 use crate::lines::{cut_line, is_comment, is_continuation, is_separator};
 use crate::names::{name_before_colon, same_name};
-use crate::seen::Seen;
+use crate::seen::NameSlots;
 
 /// A stanza's bytes, what follows its lines, and how many these are: comments after its last field
 /// count, and are no part of its bytes.
@@ -31,7 +31,7 @@ pub fn first_stanza<'a>(form: Form, before: usize, text: &'a [u8]) -> Result<Fro
         (λ front. IsFront form (before + 1) text.now front.raw.now front.rest.now front.lines)
         (λ fault. HasFault form (before + 1) text.now fault) }
 {
-    let mut seen = Seen::new();
+    let mut seen = NameSlots::new();
     let mut offset = 0;
     let mut lines = 0;
     let mut end = 0;
@@ -69,8 +69,9 @@ pub(crate) fn name_on<'a>(
     line: &'a [u8],
 ) -> Result<Option<&'a [u8]>, StanzaError>
     ensures { MatchResult result
-        (λ found. FindsName form opened number line.now found)
-        (λ fault. (before : List (List ℕ)) → opened ≡ is_open form before → fault_of form before number line.now ≡ Some fault) }
+        (λ name. FindsName form opened number line.now name)
+        (λ fault. (before : List (List ℕ)) → opened ≡ is_open form before
+        → fault_of form before number line.now ≡ Some fault) }
 {
     if is_comment(form, line) {
         return Ok(None);
@@ -92,7 +93,7 @@ fn test_line(
     opened: bool,
     number: usize,
     line: &[u8],
-    seen: &mut Seen,
+    seen: &mut NameSlots,
 ) -> Result<(), StanzaError>
     requires follows { opened ≡ is_open form (lines_of done.now) }
     requires seen { AreSeen seen.old.slots (names_of form (lines_of done.now)) }
@@ -112,7 +113,7 @@ fn test_line(
 }
 
 /// Whether a field before has the name, which may stand but once: where its slot is free, none has.
-fn is_known(form: Form, done: &[u8], seen: &Seen, name: &[u8]) -> bool
+fn is_known(form: Form, done: &[u8], seen: &NameSlots, name: &[u8]) -> bool
     requires { AreSeen seen.now.slots (names_of form (lines_of done.now)) }
     ensures { result ≡ is_repeated form (lines_of done.now) name.now }
 {
@@ -131,7 +132,8 @@ fn is_repeated(form: Form, done: &[u8], name: &[u8]) -> bool
 }
 
 fn has_field(form: Form, done: &[u8], name: &[u8]) -> bool
-    ensures { result ≡ list_any (λ field. same_name field.name name.now) (fields_of form 1 (lines_of done.now)) }
+    ensures { result
+        ≡ list_any (λ field. same_name field.name name.now) (fields_of form 1 (lines_of done.now)) }
 {
     for field in Fields::new(form, 0, done) {
         if same_name(field.name(), name) {

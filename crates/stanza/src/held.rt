@@ -3,13 +3,13 @@ ghost use Rattle.std.specs.Prelude.{◌≡◌, ◌<◌, ◌≤◌, ◌⊎◌, �
 ghost use Rattle.std.specs.Io.KnownBytes.{Consumes, IsAtEnd};
 ghost use Rattle.stanza.specs.Held.{FillsWith, IsCut, IsHeld, IsRefused, filled_of, pending_of, read_of, total_of};
 ghost use Rattle.stanza.specs.Streamed.{BeginsAhead, MayFollow};
-ghost use Rattle.stanza.specs.declared.error.ReadError.TheVariants as read_error;
+ghost use Rattle.stanza.specs.declared.error.ReaderError.TheVariants as read_error;
 
 use crate::ahead::{gap_ahead, stanza_ahead};
-use crate::error::ReadError;
+use crate::error::ReaderError;
 use crate::form::Form;
 use crate::source::Source;
-use crate::starts::Start;
+use crate::starts::FieldStart;
 use std::alloc::{AllocError, Global};
 
 // How many bytes are asked for at a time, unless more are pending.
@@ -28,7 +28,7 @@ pub struct Held {
 
 /// Where a stanza stands in the bytes that are held, how long it is, and the number of its first line.
 #[derive(Clone, Copy, Drop)]
-pub struct Place {
+pub struct StanzaPlace {
     pub from: usize,
     pub len: usize,
     pub line: usize,
@@ -38,7 +38,7 @@ pub struct Place {
 #[derive(Drop)]
 pub enum Cut {
     /// A stanza.
-    Stanza(Place),
+    Stanza(StanzaPlace),
     /// Nothing, and nothing comes.
     Nothing,
     /// Bytes of which more is needed.
@@ -46,21 +46,27 @@ pub enum Cut {
 }
 
 // Reads some of so many bytes, and answers how many: none at the end of the text alone.
-fn read_some<S: Source>(source: &mut S, block: &mut [u8], room: usize) -> Result<usize, ReadError>
+fn read_some<S: Source>(source: &mut S, block: &mut [u8], room: usize) -> Result<usize, ReaderError>
     requires { 0 < length block.old }
-    ensures bytes { IfOk result (λ count. (count ≤ length block.new) × (count ≤ room) × Consumes (S.left source.old) (S.left source.new) (take count block.new)) }
+    ensures bytes { IfOk result
+        (λ count. (count ≤ length block.new) × (count ≤ room)
+        × Consumes (S.left source.old) (S.left source.new) (take count block.new)) }
     ensures size { length block.new ≡ length block.old }
     ensures end { IfOk result (λ count. count ≡ 0 → IsAtEnd (S.left source.new)) }
-    ensures large { (left : List ℕ) → S.left source.old ≡ Some left → IfErr result (λ e. (e ≡ read_error.TooLarge) × (room ≡ 0) × (0 < length left)) }
-    ensures sure { S.is_sure source.old ≡ true → (S.is_sure source.new ≡ true) × IfErr result (λ e. e ≡ read_error.TooLarge) }
+    ensures large { (left : List ℕ) → S.left source.old ≡ Some left
+        → IfErr result (λ e. (e ≡ read_error.TooLarge) × (room ≡ 0) × (0 < length left)) }
+    ensures sure { S.is_sure source.old ≡ true → (S.is_sure source.new ≡ true)
+        × IfErr result (λ e. e ≡ read_error.TooLarge) }
     ensures count { IfOk result (λ _. S.faults source.new ≡ S.faults source.old) }
-    ensures failed { IfErr result (λ e. ((e ≡ read_error.TooLarge) × (S.faults source.new ≡ S.faults source.old))
-        ⊎ ((e ≡ read_error.Read) × (S.faults source.new ≡ min (S.faults source.old + 1) (2 ^ 64 - 1)))) }
+    ensures failed { IfErr result
+        (λ e. ((e ≡ read_error.TooLarge) × (S.faults source.new ≡ S.faults source.old))
+        ⊎ ((e ≡ read_error.Read)
+        × (S.faults source.new ≡ min (S.faults source.old + 1) (2 ^ 64 - 1)))) }
 {
     let most = block.len().min(room.max(1));
     let count = source.read(block.split_at_mut(most).0)?;
     if count > room {
-        return Err(ReadError::TooLarge);
+        return Err(ReaderError::TooLarge);
     }
     Ok(count)
 }
@@ -71,18 +77,22 @@ fn read_behind<S: Source>(
     bytes: &mut [u8],
     end: usize,
     room: usize,
-) -> Result<usize, ReadError>
+) -> Result<usize, ReaderError>
     requires { end < length bytes.old }
     ensures size { length bytes.new ≡ length bytes.old }
     ensures front { take end bytes.new ≡ take end bytes.old }
     ensures bytes { IfOk result (λ count. (end + count ≤ length bytes.new) × (count ≤ room)
         × Consumes (S.left source.old) (S.left source.new) (take count (drop end bytes.new))) }
     ensures end { IfOk result (λ count. count ≡ 0 → IsAtEnd (S.left source.new)) }
-    ensures large { (left : List ℕ) → S.left source.old ≡ Some left → IfErr result (λ e. (e ≡ read_error.TooLarge) × (room ≡ 0) × (0 < length left)) }
-    ensures sure { S.is_sure source.old ≡ true → (S.is_sure source.new ≡ true) × IfErr result (λ e. e ≡ read_error.TooLarge) }
+    ensures large { (left : List ℕ) → S.left source.old ≡ Some left
+        → IfErr result (λ e. (e ≡ read_error.TooLarge) × (room ≡ 0) × (0 < length left)) }
+    ensures sure { S.is_sure source.old ≡ true → (S.is_sure source.new ≡ true)
+        × IfErr result (λ e. e ≡ read_error.TooLarge) }
     ensures count { IfOk result (λ _. S.faults source.new ≡ S.faults source.old) }
-    ensures failed { IfErr result (λ e. ((e ≡ read_error.TooLarge) × (S.faults source.new ≡ S.faults source.old))
-        ⊎ ((e ≡ read_error.Read) × (S.faults source.new ≡ min (S.faults source.old + 1) (2 ^ 64 - 1)))) }
+    ensures failed { IfErr result
+        (λ e. ((e ≡ read_error.TooLarge) × (S.faults source.new ≡ S.faults source.old))
+        ⊎ ((e ≡ read_error.Read)
+        × (S.faults source.new ≡ min (S.faults source.old + 1) (2 ^ 64 - 1)))) }
 {
     let (_, place) = bytes.split_at_mut(end);
     read_some(source, place, room)
@@ -92,7 +102,8 @@ impl Held {
     /// Nothing is held, and so many bytes may be read.
     pub fn new(alloc: Global, most: usize) -> Held
         ensures bytes { result.bytes.items ≡ [] }
-        ensures rest { (result.begin ≡ 0) × (result.end ≡ 0) × (result.before ≡ 0) × (result.room ≡ most) }
+        ensures rest { (result.begin ≡ 0) × (result.end ≡ 0) × (result.before ≡ 0)
+            × (result.room ≡ most) }
     {
         Held {
             bytes: Vec::new(alloc),
@@ -104,7 +115,7 @@ impl Held {
     }
 
     /// The bytes that were read.
-    pub fn filled(&self) -> &[u8]
+    pub fn filled_bytes(&self) -> &[u8]
         ensures { result.now ≡ filled_of self.now }
     {
         self.bytes.split_at(self.end.min(self.bytes.len())).0
@@ -115,7 +126,7 @@ impl Held {
         requires { IsHeld self.now }
         ensures { result.now ≡ pending_of self.now }
     {
-        self.filled().split_at(self.begin).1
+        self.filled_bytes().split_at(self.begin).1
     }
 
     // Lets go of the bytes that are answered: the others are moved to the front.
@@ -123,7 +134,8 @@ impl Held {
         requires { IsHeld self.old }
         ensures bytes { filled_of self.new ≡ pending_of self.old }
         ensures end { self.new.end ≤ length self.new.bytes.items }
-        ensures rest { (self.new.begin ≡ 0) × (self.new.before ≡ self.old.before) × (self.new.room ≡ self.old.room) }
+        ensures rest { (self.new.begin ≡ 0) × (self.new.before ≡ self.old.before)
+            × (self.new.room ≡ self.old.room) }
     {
         self.bytes
             .as_mut_slice()
@@ -138,7 +150,8 @@ impl Held {
         requires { self.old.end ≤ length self.old.bytes.items }
         ensures bytes { OnOk result (filled_of self.new ≡ filled_of self.old) }
         ensures place { OnOk result (self.new.end < length self.new.bytes.items) }
-        ensures rest { OnOk result ((self.new.begin ≡ self.old.begin) × (self.new.end ≡ self.old.end)
+        ensures rest { OnOk result
+            ((self.new.begin ≡ self.old.begin) × (self.new.end ≡ self.old.end)
             × (self.new.before ≡ self.old.before) × (self.new.room ≡ self.old.room)) }
     {
         let least = self.end.max(1);
@@ -152,22 +165,28 @@ impl Held {
     }
 
     // Reads some more bytes, and answers how many: none at the end of the text alone.
-    fn read_more<S: Source>(&mut self, source: &mut S) -> Result<usize, ReadError>
+    fn read_more<S: Source>(&mut self, source: &mut S) -> Result<usize, ReaderError>
         requires held { IsHeld self.old }
         requires place { self.old.end < length self.old.bytes.items }
         ensures more { IfOk result (λ count. (block : List ℕ) × (length block ≡ count)
-            × (filled_of self.new ≡ filled_of self.old ++ block) × Consumes (S.left source.old) (S.left source.new) block) }
+            × (filled_of self.new ≡ filled_of self.old ++ block)
+            × Consumes (S.left source.old) (S.left source.new) block) }
         ensures held { OnOk result (IsHeld self.new) }
         ensures place { length self.new.bytes.items ≡ length self.old.bytes.items }
-        ensures rest { IfOk result (λ count. (self.new.begin ≡ self.old.begin) × (self.new.end ≡ self.old.end + count)
+        ensures rest { IfOk result
+            (λ count. (self.new.begin ≡ self.old.begin) × (self.new.end ≡ self.old.end + count)
             × (self.new.before ≡ self.old.before) × (self.new.room + count ≡ self.old.room)) }
         ensures end { IfOk result (λ count. count ≡ 0 → IsAtEnd (S.left source.new)) }
-        ensures large { (left : List ℕ) → S.left source.old ≡ Some left → IfErr result (λ e. (e ≡ read_error.TooLarge)
+        ensures large { (left : List ℕ) → S.left source.old ≡ Some left
+            → IfErr result (λ e. (e ≡ read_error.TooLarge)
             × (self.old.room ≡ 0) × (0 < length left)) }
-        ensures sure { S.is_sure source.old ≡ true → (S.is_sure source.new ≡ true) × IfErr result (λ e. e ≡ read_error.TooLarge) }
+        ensures sure { S.is_sure source.old ≡ true → (S.is_sure source.new ≡ true)
+            × IfErr result (λ e. e ≡ read_error.TooLarge) }
         ensures count { IfOk result (λ _. S.faults source.new ≡ S.faults source.old) }
-        ensures failed { IfErr result (λ e. ((e ≡ read_error.TooLarge) × (S.faults source.new ≡ S.faults source.old))
-            ⊎ ((e ≡ read_error.Read) × (S.faults source.new ≡ min (S.faults source.old + 1) (2 ^ 64 - 1)))) }
+        ensures failed { IfErr result
+            (λ e. ((e ≡ read_error.TooLarge) × (S.faults source.new ≡ S.faults source.old))
+            ⊎ ((e ≡ read_error.Read)
+            × (S.faults source.new ≡ min (S.faults source.old + 1) (2 ^ 64 - 1)))) }
     {
         let count = read_behind(source, self.bytes.as_mut_slice(), self.end, self.room)?;
         self.end += count;
@@ -176,18 +195,25 @@ impl Held {
     }
 
     /// Reads at least as many bytes as are pending, where the text has them, and answers whether it is over.
-    pub fn fill<S: Source>(&mut self, source: &mut S) -> Result<bool, ReadError>
+    pub fn fill<S: Source>(&mut self, source: &mut S) -> Result<bool, ReaderError>
         requires held { IsHeld self.old }
         ensures held { OnOk result (IsHeld self.new) }
         ensures filled { (left : List ℕ) → S.left source.old ≡ Some left → IfOk result (λ is_over.
-            (more : List ℕ) × (S.left source.new ≡ Some more) × FillsWith self.old self.new left more × MayFollow is_over more) }
+            (more : List ℕ) × (S.left source.new ≡ Some more)
+            × FillsWith self.old self.new left more × MayFollow is_over more) }
         ensures total { OnOk result (total_of self.new ≡ total_of self.old) }
-        ensures less { IfOk result (λ is_over. (self.new.room ≤ self.old.room) × (is_over ≡ false → self.new.room < self.old.room)) }
-        ensures large { (left : List ℕ) → S.left source.old ≡ Some left → IfErr result (λ e. (e ≡ read_error.OutOfMemory)
+        ensures less { IfOk result
+            (λ is_over. (self.new.room ≤ self.old.room)
+            × (is_over ≡ false → self.new.room < self.old.room)) }
+        ensures large { (left : List ℕ) → S.left source.old ≡ Some left
+            → IfErr result (λ e. (e ≡ read_error.OutOfMemory)
             ⊎ ((e ≡ read_error.TooLarge) × (self.old.room ≡ 0) × (0 < length left))) }
-        ensures sure { S.is_sure source.old ≡ true → (S.is_sure source.new ≡ true) × IfErr result (λ e. e ≢ read_error.Read) }
+        ensures sure { S.is_sure source.old ≡ true → (S.is_sure source.new ≡ true)
+            × IfErr result (λ e. e ≢ read_error.Read) }
         ensures count { OnOk result (S.faults source.new ≡ S.faults source.old) }
-        ensures failed { IfErr result (λ e. e ≡ read_error.Read → S.faults source.new ≡ min (S.faults source.old + 1) (2 ^ 64 - 1)) }
+        ensures failed { IfErr result
+            (λ e. e ≡ read_error.Read → S.faults source.new
+            ≡ min (S.faults source.old + 1) (2 ^ 64 - 1)) }
     {
         self.let_go();
         self.make_place()?;
@@ -207,9 +233,11 @@ impl Held {
     fn skip_gap(&mut self, form: Form, is_over: bool)
         requires { IsHeld self.old }
         ensures held { IsHeld self.new }
-        ensures bytes { (filled_of self.new ≡ filled_of self.old) × (self.new.room ≡ self.old.room) }
+        ensures bytes { (filled_of self.new ≡ filled_of self.old)
+            × (self.new.room ≡ self.old.room) }
         ensures total { total_of self.new ≤ total_of self.old }
-        ensures read { (left : List ℕ) → MayFollow is_over left → read_of form self.old left ≡ read_of form self.new left }
+        ensures read { (left : List ℕ) → MayFollow is_over left → read_of form self.old left
+            ≡ read_of form self.new left }
         ensures begins { BeginsAhead is_over form (pending_of self.new) }
     {
         let (len, lines) = gap_ahead(form, self.pending(), is_over);
@@ -222,15 +250,17 @@ impl Held {
         &mut self,
         form: Form,
         is_over: bool,
-        starts: &mut Vec<Start>,
-    ) -> Result<Cut, ReadError>
+        starts: &mut Vec<FieldStart>,
+    ) -> Result<Cut, ReaderError>
         requires { IsHeld self.old }
         ensures held { IsHeld self.new }
         ensures room { self.new.room ≡ self.old.room }
         ensures total { total_of self.new ≤ total_of self.old }
-        ensures found { IfOk result (λ cut. IsCut is_over form self.old self.new starts.new.items cut) }
+        ensures cut { IfOk result
+            (λ cut. IsCut is_over form self.old self.new starts.new.items cut) }
         ensures fault { IfErr result (λ e. (e ≡ read_error.OutOfMemory)
-            ⊎ ((fault : _) × (e ≡ read_error.Refused fault) × IsRefused is_over form self.old fault)) }
+            ⊎ ((fault : _) × (e ≡ read_error.Refused fault)
+            × IsRefused is_over form self.old fault)) }
     {
         self.skip_gap(form, is_over);
         let text = self.pending();
@@ -240,7 +270,7 @@ impl Held {
         let Some(ahead) = stanza_ahead(form, self.before, text, is_over, starts)? else {
             return Ok(Cut::More);
         };
-        let place = Place {
+        let place = StanzaPlace {
             from: self.begin,
             len: ahead.end,
             line: self.before + 1,

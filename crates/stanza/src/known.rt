@@ -9,8 +9,8 @@ ghost use Rattle.stanza.specs.Known.{AreKnown};
 ghost use Rattle.stanza.specs.Starts.{name_at};
 
 use crate::names::same_name;
-use crate::seen::Seen;
-use crate::starts::{Start, part};
+use crate::seen::NameSlots;
+use crate::starts::{FieldStart, part};
 use indexmap::IndexSet;
 use std::alloc::{AllocError, Global};
 use std::marker::Model;
@@ -43,7 +43,8 @@ impl Folded {
 
     // Whether the name is there, but for the case of its letters.
     fn has(&self, name: &[u8]) -> Result<bool, AllocError>
-        ensures { IfOk result (λ has. has ≡ list_any (bytes_eq (map to_ascii_lowercase name.now)) self.now) }
+        ensures { IfOk result
+            (λ has. has ≡ list_any (bytes_eq (map to_ascii_lowercase name.now)) self.now) }
     {
         let folded = name.to_ascii_lowercase(*self.names.allocator())?;
         Ok(self.names.contains(folded.as_slice()))
@@ -51,7 +52,8 @@ impl Folded {
 
     // Adds the name, unless it is there.
     fn note(&mut self, name: &[u8]) -> Result<(), AllocError>
-        ensures { OnOk result (self.new ≡ insert_key bytes_eq self.old (map to_ascii_lowercase name.now)) }
+        ensures { OnOk result
+            (self.new ≡ insert_key bytes_eq self.old (map to_ascii_lowercase name.now)) }
     {
         let folded = name.to_ascii_lowercase(*self.names.allocator())?;
         self.names.insert(folded)?;
@@ -60,7 +62,7 @@ impl Folded {
 }
 
 // Whether a field that begins there has the name.
-fn has_name(done: &[u8], starts: &[Start], name: &[u8]) -> bool
+fn has_name(done: &[u8], starts: &[FieldStart], name: &[u8]) -> bool
     ensures { result ≡ list_any (λ start. same_name (name_at done.now start) name.now) starts.now }
 {
     starts.iter().any(|start| same_name(part(done, start.at, start.name_len), name))
@@ -69,7 +71,7 @@ fn has_name(done: &[u8], starts: &[Start], name: &[u8]) -> bool
 /// The names of the fields so far: their slots, and a table of the first of them.
 #[derive(Drop)]
 pub struct Known {
-    pub seen: Seen,
+    pub seen: NameSlots,
     pub folded: Folded,
     pub noted: usize,
 }
@@ -80,14 +82,14 @@ impl Known {
         ensures { AreKnown result [] }
     {
         Known {
-            seen: Seen::new(),
+            seen: NameSlots::new(),
             folded: Folded::new(alloc),
             noted: 0,
         }
     }
 
     // Puts the names into the table that aren't there yet.
-    fn note_all(&mut self, done: &[u8], starts: &[Start]) -> Result<(), AllocError>
+    fn note_all(&mut self, done: &[u8], starts: &[FieldStart]) -> Result<(), AllocError>
         requires { AreKnown self.old (map (name_at done.now) starts.now) }
         ensures known { OnOk result (AreKnown self.new (map (name_at done.now) starts.now)) }
         ensures all { OnOk result (length starts.now ≤ self.new.noted) }
@@ -102,9 +104,16 @@ impl Known {
 
     /// Whether one of the fields that begin there has the name. Where its slot is free, none has. Each name is put into the
     /// table once.
-    pub fn has(&mut self, done: &[u8], starts: &[Start], name: &[u8]) -> Result<bool, AllocError>
+    pub fn has(
+        &mut self,
+        done: &[u8],
+        starts: &[FieldStart],
+        name: &[u8],
+    ) -> Result<bool, AllocError>
         requires { AreKnown self.old (map (name_at done.now) starts.now) }
-        ensures has { IfOk result (λ has. has ≡ list_any (λ earlier. same_name earlier name.now) (map (name_at done.now) starts.now)) }
+        ensures has { IfOk result
+            (λ has. has ≡ list_any (λ earlier. same_name earlier name.now)
+            (map (name_at done.now) starts.now)) }
         ensures known { OnOk result (AreKnown self.new (map (name_at done.now) starts.now)) }
     {
         if !self.seen.has_slot_of(name) {
@@ -119,7 +128,8 @@ impl Known {
 
     /// Adds the name of one more field.
     pub fn add(&mut self, name: &[u8])
-        ensures { (names : List (List ℕ)) → AreKnown self.old names → AreKnown self.new (names ++ name.now ∷ []) }
+        ensures { (names : List (List ℕ)) → AreKnown self.old names
+            → AreKnown self.new (names ++ name.now ∷ []) }
     {
         self.seen.add(name);
     }

@@ -25,5 +25,6 @@ pub fn what_is_read_of_a_text_is_its_items()
 
 /// The reading of a text that is longer than may be read ends in a refusal.
 pub fn a_text_that_is_too_long_is_refused()
-    ensures { (form : Form) (text : List ℕ) (most : ℕ) → most < length text → EndsRefused (read_within form 1 most text) }
+    ensures { (form : Form) (text : List ℕ) (most : ℕ) → most < length text
+        → EndsRefused (read_within form 1 most text) }
 {}

@@ -23,7 +23,7 @@ mod view;
 mod walk;
 
 pub use entries::{Field, Fields};
-pub use error::{ReadError, StanzaError};
+pub use error::{ReaderError, StanzaError};
 pub use form::Form;
 pub use reader::Reader;
 pub use source::{ReadFailed, Source};

@@ -82,7 +82,8 @@ fn has_colon(text: &[u8]) -> bool
 /// The name before the first colon of a line, which has this number. One walk over the name.
 pub fn name_before_colon(number: usize, line: &[u8]) -> Result<&[u8], StanzaError>
     ensures { MatchResult result
-        (λ name. (list_any is_colon line.now ≡ true) × (name.now ≡ name_of line.now) × (is_name name.now ≡ true))
+        (λ name. (list_any is_colon line.now ≡ true) × (name.now ≡ name_of line.now)
+        × (is_name name.now ≡ true))
         (λ fault. name_fault number line.now ≡ Some fault) }
 {
     let (name, rest) = line.split_at(name_end(line));

@@ -3,14 +3,14 @@ ghost use Rattle.std.specs.Prelude.{◌≡◌, ◌≢◌, ◌<◌, ◌≤◌, �
 ghost use Rattle.std.specs.Option.{is_some};
 ghost use Rattle.stanza.specs.Held.{Finds, IsHeld, IsPlaced, filled_of, read_of, total_of};
 ghost use Rattle.stanza.specs.Reading.{GoesOn, Reading, begins, to_read};
-ghost use Rattle.stanza.specs.declared.error.ReadError.TheVariants as read_error;
+ghost use Rattle.stanza.specs.declared.error.ReaderError.TheVariants as read_error;
 ghost use Rattle.stanza.specs.declared.form.Form.TheVariants.{Commented, Plain};
 
-use crate::error::ReadError;
+use crate::error::ReaderError;
 use crate::form::Form;
-use crate::held::{Cut, Held, Place};
+use crate::held::{Cut, Held, StanzaPlace};
 use crate::source::Source;
-use crate::starts::{ReadStanza, Start, part};
+use crate::starts::{FieldStart, ReadStanza, part};
 use std::alloc::{AllocError, Global};
 use std::marker::Model;
 
@@ -19,9 +19,9 @@ use std::marker::Model;
 pub struct Reader {
     form: Form,
     held: Held,
-    starts: Vec<Start>,
-    at: Option<Place>,
-    failed: Option<ReadError>,
+    starts: Vec<FieldStart>,
+    at: Option<StanzaPlace>,
+    failed: Option<ReaderError>,
 }
 
 impl Model for Reader {
@@ -50,20 +50,29 @@ fn read_on<S: Source>(
     form: Form,
     held: &mut Held,
     source: &mut S,
-    starts: &mut Vec<Start>,
-) -> Result<Option<Place>, ReadError>
+    starts: &mut Vec<FieldStart>,
+) -> Result<Option<StanzaPlace>, ReaderError>
     requires held { IsHeld held.old }
     ensures held { OnOk result (IsHeld held.new) }
-    ensures placed { IfOk result (λ found. IfSome found (λ place. IsPlaced form (filled_of held.new) place starts.new.items)) }
-    ensures less { IfOk result (λ found. IfSome found (λ _. total_of held.new < total_of held.old)) }
-    ensures known { (left : List ℕ) → S.left source.old ≡ Some left → IfOk result (λ found.
-        (more : List ℕ) × (S.left source.new ≡ Some more) × Finds form held.old held.new left more found) }
-    ensures refused { (left : List ℕ) → S.left source.old ≡ Some left → IfErr result (λ e. (e ≡ read_error.OutOfMemory)
+    ensures placed { IfOk result
+        (λ reached. IfSome reached
+        (λ place. IsPlaced form (filled_of held.new) place starts.new.items)) }
+    ensures less { IfOk result
+        (λ reached. IfSome reached (λ _. total_of held.new < total_of held.old)) }
+    ensures known { (left : List ℕ) → S.left source.old ≡ Some left → IfOk result (λ reached.
+        (more : List ℕ) × (S.left source.new ≡ Some more)
+        × Finds form held.old held.new left more reached) }
+    ensures refused { (left : List ℕ) → S.left source.old ≡ Some left
+        → IfErr result (λ e. (e ≡ read_error.OutOfMemory)
         ⊎ (read_of form held.old left ≡ Err e ∷ [])) }
-    ensures gives { (left : List ℕ) → S.left source.old ≡ Some left → IfErr result (λ e. e ≢ read_error.Read) }
-    ensures sure { S.is_sure source.old ≡ true → (S.is_sure source.new ≡ true) × IfErr result (λ e. e ≢ read_error.Read) }
+    ensures gives { (left : List ℕ) → S.left source.old ≡ Some left
+        → IfErr result (λ e. e ≢ read_error.Read) }
+    ensures sure { S.is_sure source.old ≡ true → (S.is_sure source.new ≡ true)
+        × IfErr result (λ e. e ≢ read_error.Read) }
     ensures count { OnOk result (S.faults source.new ≡ S.faults source.old) }
-    ensures failed { IfErr result (λ e. e ≡ read_error.Read → S.faults source.new ≡ min (S.faults source.old + 1) (2 ^ 64 - 1)) }
+    ensures failed { IfErr result
+        (λ e. e ≡ read_error.Read → S.faults source.new
+        ≡ min (S.faults source.old + 1) (2 ^ 64 - 1)) }
 {
     let mut is_over = false;
     loop {
@@ -104,31 +113,40 @@ impl Reader {
 
     /// Goes on to the next stanza, and answers whether there is one. After an error it answers that error from then on, and
     /// reads no more. About linear in the text, however many fields a stanza has.
-    pub fn advance<S: Source>(&mut self, source: &mut S) -> Result<bool, ReadError>
+    pub fn advance<S: Source>(&mut self, source: &mut S) -> Result<bool, ReaderError>
         ensures form { self.new.form ≡ self.old.form }
-        ensures some { IfOk result (λ found. found ≡ is_some self.new.stanza) }
-        ensures less { IfOk result (λ found. found ≡ true → length self.new.pending + self.new.room < length self.old.pending + self.old.room) }
+        ensures some { IfOk result (λ reached. reached ≡ is_some self.new.stanza) }
+        ensures less { IfOk result
+            (λ reached. reached ≡ true → length self.new.pending + self.new.room
+            < length self.old.pending + self.old.room) }
         ensures known { (left : List ℕ) → S.left source.old ≡ Some left → IfOk result (λ _.
-            (more : List ℕ) × (S.left source.new ≡ Some more) × GoesOn self.old self.new left more) }
-        ensures refused { (left : List ℕ) → S.left source.old ≡ Some left → self.old.failed ≡ None → IfErr result (λ e. (e ≡ read_error.OutOfMemory)
+            (more : List ℕ) × (S.left source.new ≡ Some more)
+            × GoesOn self.old self.new left more) }
+        ensures refused { (left : List ℕ) → S.left source.old ≡ Some left → self.old.failed ≡ None
+            → IfErr result (λ e. (e ≡ read_error.OutOfMemory)
             ⊎ (to_read self.old left ≡ Err e ∷ [])) }
         ensures kept { IfErr result (λ e. self.new.failed ≡ Some e) }
         ensures goes_on { OnOk result (self.new.failed ≡ None) }
-        ensures again { (e : _) → self.old.failed ≡ Some e → (result ≡ Err e) × (source.new ≡ source.old) }
-        ensures gives { (left : List ℕ) → S.left source.old ≡ Some left → self.old.failed ≡ None → IfErr result (λ e. e ≢ read_error.Read) }
+        ensures again { (e : _) → self.old.failed ≡ Some e → (result ≡ Err e)
+            × (source.new ≡ source.old) }
+        ensures gives { (left : List ℕ) → S.left source.old ≡ Some left → self.old.failed ≡ None
+            → IfErr result (λ e. e ≢ read_error.Read) }
         ensures sure { S.is_sure source.old ≡ true → (S.is_sure source.new ≡ true)
             × (self.old.failed ≡ None → IfErr result (λ e. e ≢ read_error.Read)) }
         ensures count { OnOk result (S.faults source.new ≡ S.faults source.old) }
-        ensures failed { self.old.failed ≡ None → IfErr result (λ e. e ≡ read_error.Read → S.faults source.new ≡ min (S.faults source.old + 1) (2 ^ 64 - 1)) }
+        ensures failed { self.old.failed ≡ None
+            → IfErr result
+            (λ e. e ≡ read_error.Read → S.faults source.new
+            ≡ min (S.faults source.old + 1) (2 ^ 64 - 1)) }
     {
         if let Some(failed) = self.failed {
             return Err(failed);
         }
         self.at = None;
         match read_on(self.form, &mut self.held, source, &mut self.starts) {
-            Ok(found) => {
-                self.at = found;
-                Ok(found.is_some())
+            Ok(reached) => {
+                self.at = reached;
+                Ok(reached.is_some())
             }
             Err(failed) => {
                 self.failed = Some(failed);
@@ -142,7 +160,7 @@ impl Reader {
         ensures { result ≡ self.now.stanza }
     {
         let place = self.at?;
-        let raw = part(self.held.filled(), place.from, place.len);
+        let raw = part(self.held.filled_bytes(), place.from, place.len);
         Some(ReadStanza::new(self.form, place.line, raw, &self.starts))
     }
 }

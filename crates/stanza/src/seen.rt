@@ -6,16 +6,16 @@ const SLOTS: usize = 256;
 
 /// Which slots are taken.
 #[derive(Drop)]
-pub struct Seen {
+pub struct NameSlots {
     pub slots: [bool; 256],
 }
 
-impl Seen {
+impl NameSlots {
     /// No slot is taken.
-    pub fn new() -> Seen
+    pub fn new() -> NameSlots
         ensures { result.slots ≡ replicate SLOTS false }
     {
-        Seen {
+        NameSlots {
             slots: [false; SLOTS],
         }
     }

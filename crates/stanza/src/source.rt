@@ -25,10 +25,12 @@ pub trait Source {
     /// none at the end alone, or where the block has no room.
     fn read(&mut self, block: &mut [u8]) -> Result<usize, ReadFailed>
         ensures bytes { MatchResult result
-            (λ count. (count ≤ length block.new) × Consumes (left self.old) (left self.new) (take count block.new))
+            (λ count. (count ≤ length block.new)
+            × Consumes (left self.old) (left self.new) (take count block.new))
             (λ _. left self.old ≡ None) }
         ensures size { length block.new ≡ length block.old }
-        ensures end { 0 < length block.old → IfOk result (λ count. count ≡ 0 → IsAtEnd (left self.new)) }
+        ensures end { 0 < length block.old
+            → IfOk result (λ count. count ≡ 0 → IsAtEnd (left self.new)) }
         ensures sure { is_sure self.old ≡ true → IsOk result × (is_sure self.new ≡ true) }
         ensures count { MatchResult result
             (λ _. faults self.new ≡ faults self.old)

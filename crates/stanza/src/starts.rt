@@ -17,7 +17,7 @@ use std::marker::Model;
 
 /// Where a field begins in its stanza's bytes, how long its name is, and the number of its line.
 #[derive(Clone, Copy, Drop)]
-pub struct Start {
+pub struct FieldStart {
     pub at: usize,
     pub name_len: usize,
     pub line: usize,
@@ -83,7 +83,8 @@ impl<'a> FieldAt<'a> {
 fn field_front(text: &[u8]) -> &[u8]
     requires { 0 < length text.now }
     ensures alone { IsOneField result.now }
-    ensures field { (n : ℕ) → first_field n (lines_of result.now) ≡ first_field n (lines_of text.now) }
+    ensures field { (n : ℕ) → first_field n (lines_of result.now)
+        ≡ first_field n (lines_of text.now) }
 {
     let (line, after) = cut_line(text);
     let (len, _) = continuations(after);
@@ -95,7 +96,8 @@ fn own_lines(form: Form, text: &[u8]) -> &[u8]
     requires some { 0 < length text.now }
     requires alone { form ≡ Plain → IsOneField text.now }
     ensures alone { IsOneField result.now }
-    ensures field { (n : ℕ) → first_field n (lines_of result.now) ≡ first_field n (lines_of text.now) }
+    ensures field { (n : ℕ) → first_field n (lines_of result.now)
+        ≡ first_field n (lines_of text.now) }
 {
     match form {
         Form::Plain => text,
@@ -108,7 +110,7 @@ fn own_lines(form: Form, text: &[u8]) -> &[u8]
 pub struct ReadFields<'a> {
     form: Form,
     raw: &'a [u8],
-    starts: &'a [Start],
+    starts: &'a [FieldStart],
 }
 
 impl<'a> Model for ReadFields<'a> {
@@ -136,7 +138,7 @@ impl<'a> Iterator for ReadFields<'a> {
 }
 
 // Where the first of these fields begins, or where so many bytes end.
-fn first_at(most: usize, starts: &[Start]) -> usize
+fn first_at(most: usize, starts: &[FieldStart]) -> usize
     ensures { result ≡ first_at most starts.now }
 {
     match starts {
@@ -146,7 +148,7 @@ fn first_at(most: usize, starts: &[Start]) -> usize
 }
 
 // The bytes from a start to the first of the later ones.
-fn bytes_between<'a>(raw: &'a [u8], start: &Start, later: &[Start]) -> &'a [u8]
+fn bytes_between<'a>(raw: &'a [u8], start: &FieldStart, later: &[FieldStart]) -> &'a [u8]
     requires begin { start.now.at < first_at (length raw.now) later.now }
     requires end { first_at (length raw.now) later.now ≤ length raw.now }
     ensures { result.now ≡ bytes_between raw.now start.now later.now }
@@ -156,7 +158,7 @@ fn bytes_between<'a>(raw: &'a [u8], start: &Start, later: &[Start]) -> &'a [u8]
 }
 
 // The field that begins there, before the first of the later ones.
-fn field_of<'a>(form: Form, raw: &'a [u8], start: &Start, later: &[Start]) -> FieldAt<'a>
+fn field_of<'a>(form: Form, raw: &'a [u8], start: &FieldStart, later: &[FieldStart]) -> FieldAt<'a>
     requires { IsWithin form raw.now start.now later.now }
     ensures { result ≡ field_at raw.now start.now }
 {
@@ -174,7 +176,7 @@ pub struct ReadStanza<'a> {
     form: Form,
     line: usize,
     raw: &'a [u8],
-    starts: &'a [Start],
+    starts: &'a [FieldStart],
 }
 
 impl<'a> Model for ReadStanza<'a> {
@@ -188,7 +190,12 @@ impl<'a> Model for ReadStanza<'a> {
 impl<'a> ReadStanza<'a> {
     // The stanza of these bytes, whose first line has this number, with where its fields begin.
     #[inline]
-    pub(crate) fn new(form: Form, line: usize, raw: &'a [u8], starts: &'a [Start]) -> ReadStanza<'a>
+    pub(crate) fn new(
+        form: Form,
+        line: usize,
+        raw: &'a [u8],
+        starts: &'a [FieldStart],
+    ) -> ReadStanza<'a>
         requires some { 0 < length raw.now }
         requires starts { starts.now ≡ starts_of form 0 line (lines_of raw.now) }
         ensures { result ≡ stanza_of form line (lines_of raw.now) }

@@ -3,7 +3,7 @@ ghost use Rattle.std.specs.Prelude.{◌≡◌, ◌≤◌, ◌-◌, ◌++◌, ℕ
 ghost use Rattle.std.specs.List.{prefix_len, suffix_len};
 ghost use Rattle.stanza.specs.Line.{is_white};
 ghost use Rattle.stanza.specs.Field.{is_colon, without_newline, trim_front, trim_end, name_of, value_of};
-ghost use Rattle.stanza.specs.Starts.{behind_colon, trimmed};
+ghost use Rattle.stanza.specs.Starts.{behind_colon, trim};
 
 use crate::lines::is_white;
 use crate::names::COLON;
@@ -35,15 +35,15 @@ pub fn value_of<'a>(line: &[u8], text: &'a [u8]) -> &'a [u8]
         None => line.len(),
     };
     let (_, value) = text.split_at(start);
-    trimmed(value)
+    trim(value)
 }
 
 /// What stands behind a name so long, its colon and white space, where these are the lines of its field.
 pub fn value_behind(name_len: usize, lines: &[u8]) -> &[u8]
     requires { name_len ≤ length lines.now }
-    ensures { result.now ≡ trimmed (behind_colon (drop name_len lines.now)) }
+    ensures { result.now ≡ trim (behind_colon (drop name_len lines.now)) }
 {
-    trimmed(behind_colon(lines.split_at(name_len).1))
+    trim(behind_colon(lines.split_at(name_len).1))
 }
 
 // What stands behind the colon at the front, if one stands there.
@@ -57,8 +57,8 @@ fn behind_colon(text: &[u8]) -> &[u8]
 }
 
 // The value without its newline and without white space at its ends.
-fn trimmed(value: &[u8]) -> &[u8]
-    ensures { result.now ≡ trimmed value.now }
+fn trim(value: &[u8]) -> &[u8]
+    ensures { result.now ≡ trim value.now }
 {
     trim_end(trim_front(without_newline(value)))
 }

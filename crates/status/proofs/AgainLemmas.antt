@@ -77,15 +77,15 @@ slots-again arch seen (slot ∷ slots) [] each distinct same = absurd (let e = s
 slots-again arch seen (Recorded entry ∷ slots) (stanza ∷ stanzas) each distinct same =
     let first : read_stanza stanza ≡ as_written entry.stanza = let e = same in cc in
     let rest : map read_stanza stanzas ≡ map as_written (map stanza_of slots) = let e = same in cc in
-    let name = entry.found.name in
-    let read : FileRecord = record { found = entry.found; stanza = read_stanza stanza } in
+    let name = entry.status.name in
+    let read : FileRecord = record { status = entry.status; stanza = read_stanza stanza } in
     let ok = each.0.1 stanza seen (ap (λ (s : Stanza). s.fields) first) (first-unseen seen name (names_of slots) distinct) in
     let later = slots-again arch (seen ++ name ∷ []) slots stanzas each.1 (subst AreDistinct (sym (append_assoc seen (name ∷ []) (names_of slots))) distinct) rest in
     let itself = written-again entry (read_stanza stanza) each.0.0.stanza first in
     record {
       read = Recorded read ∷ later.read;
       ok = one-again arch seen (seen ++ name ∷ []) stanza stanzas (Recorded read) later.read ok later.ok refl;
-      stored = λ i. Recorded (record { found = entry.found; stanza = itself i }) ∷ later.stored i;
+      stored = λ i. Recorded (record { status = entry.status; stanza = itself i }) ∷ later.stored i;
     }
 slots-again arch seen (Foreign old ∷ slots) (stanza ∷ stanzas) each distinct same =
     let first : read_stanza stanza ≡ as_written (read_stanza old) = let e = same in cc in

@@ -58,8 +58,8 @@ entry-faithful arch seen stanza entry was read =
       stanza = inl (subst WasRead parts.1 was);
       version = subst IsWritableVersion says.version (text-writable values.version says.version_sound);
       config_version = subst (λ (version : Option (List ℕ)). IfSome version IsWritableVersion) says.config_version
-          (some-writable (config_version_at entry.found.state values.version values.config_version)
-          (config-sound entry.found.state values.version values.config_version says.version_sound says.config_sound));
+          (some-writable (config_version_at entry.status.state values.version values.config_version)
+          (config-sound entry.status.state values.version values.config_version says.version_sound says.config_sound));
     }
 
 pub slot-faithful : (arch : List ℕ) (seen : List (List ℕ)) (stanza : StanzaText) (slot : FileSlot) → WasRead (read_stanza stanza)

@@ -47,10 +47,10 @@ no_package config_version field kept =
     ∙ rw (neither (is_called (codes "Package") field) (is_called_one_of (codes "Status" ∷ codes "Config-Version" ∷ []) field) kept) refl
 
 -- the fields Package and those that are written on, of a touched stanza
-pub touched-package : (found : Record) (config_version : Option (List ℕ)) (fields : List Field)
-    → fields_called (codes "Package") (touched_fields (status_of found) config_version fields) ≡ fields_called (codes "Package") fields
-touched-package found config_version fields =
-    filter-append (is_called (codes "Package")) (fields_called (codes "Package") fields) (status_of found ∷ flat_map (with_config_version config_version) (filter is_kept fields))
+pub touched-package : (entry : Record) (config_version : Option (List ℕ)) (fields : List Field)
+    → fields_called (codes "Package") (touched_fields (status_of entry) config_version fields) ≡ fields_called (codes "Package") fields
+touched-package entry config_version fields =
+    filter-append (is_called (codes "Package")) (fields_called (codes "Package") fields) (status_of entry ∷ flat_map (with_config_version config_version) (filter is_kept fields))
     ∙ ap (λ front. front ++ fields_called (codes "Package") (flat_map (with_config_version config_version) (filter is_kept fields)))
     (all_of_both (is_called (codes "Package")) (is_called (codes "Package")) (λ field called. called) fields)
     ∙ ap (λ rest. fields_called (codes "Package") fields ++ rest)

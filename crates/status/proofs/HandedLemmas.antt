@@ -41,7 +41,7 @@ entry-found arch (Ok stanza ∷ []) indexed h = (stanza, Contains-head (Ok stanz
   where
     by : (read : Result (Option IndexStanza) IndexFault) → unless_refused read ≡ Some indexed → read ≡ Ok (Some indexed)
     by (Err refused) h = absurd (let e = h in cc)
-    by (Ok entry) h = ap (λ (found : Option IndexStanza). Ok found) h
+    by (Ok entry) h = ap (λ (one : Option IndexStanza). Ok one) h
 
 -- the steps of reading it
 name-read : (refused : Option PkgFault) (later : Result (Option IndexStanza) IndexFault) (indexed : IndexStanza) → unless_name_fault refused later ≡ Ok (Some indexed)
@@ -79,6 +79,6 @@ indexed-writable arch place text stanza indexed within read =
 pub can-unpack : (arch : List ℕ) (given : Option (List ℕ)) (indexed : IndexStanza) → handed_in arch given ≡ Some indexed → CanUnpack arch indexed
 can-unpack arch None indexed h = absurd (let e = h in cc)
 can-unpack arch (Some text) indexed h =
-    let found = entry-found arch (items_of Plain text) indexed h in
-    let back = unpacked_reads_back arch (first_place 1) found.0 indexed found.2 in
-    record { writable = indexed-writable arch (first_place 1) text found.0 indexed found.1 found.2; alone = back.0; over = back.1 }
+    let read = entry-found arch (items_of Plain text) indexed h in
+    let back = unpacked_reads_back arch (first_place 1) read.0 indexed read.2 in
+    record { writable = indexed-writable arch (first_place 1) text read.0 indexed read.1 read.2; alone = back.0; over = back.1 }

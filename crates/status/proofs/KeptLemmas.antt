@@ -27,11 +27,11 @@ read_whole None spelled pkg read = (refl, let e = read in cc)
 read_whole (Some refused) spelled pkg read = absurd (let e = read in cc)
 
 -- the version of a present record isn't empty
-pub has_version : (arch : List ℕ) (stanza : StanzaText) (found : Record) → IsKept arch stanza found → is_present_state found.state ≡ true
-    → found.version ≡ [] → ⊥
-has_version arch stanza found kept present empty =
+pub has_version : (arch : List ℕ) (stanza : StanzaText) (entry : Record) → IsKept arch stanza entry → is_present_state entry.state ≡ true
+    → entry.version ≡ [] → ⊥
+has_version arch stanza entry kept present empty =
     let fields = fields_of stanza in
-    let read = read_whole (pkg_fault fields) (spelled_pkg arch fields) (pkg_of found) (kept.pkg present) in
+    let read = read_whole (pkg_fault fields) (spelled_pkg arch fields) (pkg_of entry) (kept.pkg present) in
     is_versioned fields.line fields.version
     (none-front (pkg_version_fault fields) (relations_fault fields) (none-back (pkg_name_fault fields) (option_or (pkg_version_fault fields) (relations_fault fields)) read.0))
     (ap (λ (pkg : Pkg). pkg.version) read.1 ∙ empty)

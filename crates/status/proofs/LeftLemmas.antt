@@ -17,24 +17,24 @@ entries_changed : (test : Record → Bool) (change : FileRecord → FileRecord) 
 entries_changed test change [] = refl
 entries_changed test change (Foreign stanza ∷ slots) = entries_changed test change slots
 entries_changed test change (Recorded entry ∷ slots) =
-    ap (λ later. (if test entry.found then change entry else entry) ∷ later) (entries_changed test change slots)
+    ap (λ later. (if test entry.status then change entry else entry) ∷ later) (entries_changed test change slots)
 
 entries_filtered : (name : List ℕ) (slots : List FileSlot)
-    → entries_of (filter (λ slot. not (is_slot_named name slot)) slots) ≡ filter (λ entry. not (is_named name entry.found)) (entries_of slots)
+    → entries_of (filter (λ slot. not (is_slot_named name slot)) slots) ≡ filter (λ entry. not (is_named name entry.status)) (entries_of slots)
 entries_filtered name [] = refl
 entries_filtered name (Foreign stanza ∷ slots) = entries_filtered name slots
-entries_filtered name (Recorded entry ∷ slots) = at (not (bytes_eq entry.found.name name)) (entries_filtered name slots)
+entries_filtered name (Recorded entry ∷ slots) = at (not (bytes_eq entry.status.name name)) (entries_filtered name slots)
   where
-    at : (b : Bool) → entries_of (filter (λ slot. not (is_slot_named name slot)) slots) ≡ filter (λ (e : FileRecord). not (is_named name e.found)) (entries_of slots)
+    at : (b : Bool) → entries_of (filter (λ slot. not (is_slot_named name slot)) slots) ≡ filter (λ (e : FileRecord). not (is_named name e.status)) (entries_of slots)
         → entries_of (cond b (Recorded entry ∷ filter (λ slot. not (is_slot_named name slot)) slots) (filter (λ slot. not (is_slot_named name slot)) slots))
-        ≡ cond b (entry ∷ filter (λ (e : FileRecord). not (is_named name e.found)) (entries_of slots)) (filter (λ (e : FileRecord). not (is_named name e.found)) (entries_of slots))
+        ≡ cond b (entry ∷ filter (λ (e : FileRecord). not (is_named name e.status)) (entries_of slots)) (filter (λ (e : FileRecord). not (is_named name e.status)) (entries_of slots))
     at true later = ap (λ rest. entry ∷ rest) later
     at false later = later
 
 pub has_name-records : (name : List ℕ) (slots : List FileSlot) → has_name name slots ≡ list_any (is_named name) (slot_records slots)
 has_name-records name [] = refl
 has_name-records name (Foreign stanza ∷ slots) = has_name-records name slots
-has_name-records name (Recorded entry ∷ slots) = ap (λ later. bytes_eq entry.found.name name || later) (has_name-records name slots)
+has_name-records name (Recorded entry ∷ slots) = ap (λ later. bytes_eq entry.status.name name || later) (has_name-records name slots)
 
 entries_unpacked : (indexed : IndexStanza) (slots : List FileSlot)
     → entries_of (slots_after_unpack indexed slots) ≡ entries_after_unpack indexed (entries_of slots)

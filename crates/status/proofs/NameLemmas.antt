@@ -41,7 +41,7 @@ or-both-false a b e f = rw (e, f) refl
 -- a slot has the name where it is one of their names
 pub has_name-names : (name : List ℕ) (slots : List FileSlot) → has_name name slots ≡ is_in name (names_of slots)
 has_name-names name [] = refl
-has_name-names name (Recorded entry ∷ slots) = ap (λ later. bytes_eq entry.found.name name || later) (has_name-names name slots)
+has_name-names name (Recorded entry ∷ slots) = ap (λ later. bytes_eq entry.status.name name || later) (has_name-names name slots)
 has_name-names name (Foreign stanza ∷ slots) = has_name-names name slots
 
 -- slots of other names stay where a name is changed or deleted
@@ -51,8 +51,8 @@ unnamed-changed name change [] h = refl
 unnamed-changed name change (Foreign stanza ∷ slots) h = ap (λ later. Foreign stanza ∷ later) (unnamed-changed name change slots h)
 unnamed-changed name change (Recorded entry ∷ slots) h =
     rw (
-      or-false-left (bytes_eq entry.found.name name) (is_in name (names_of slots)) h,
-      unnamed-changed name change slots (or-false-right (bytes_eq entry.found.name name) (is_in name (names_of slots)) h),
+      or-false-left (bytes_eq entry.status.name name) (is_in name (names_of slots)) h,
+      unnamed-changed name change slots (or-false-right (bytes_eq entry.status.name name) (is_in name (names_of slots)) h),
     ) refl
 
 pub unnamed-kept : (name : List ℕ) (slots : List FileSlot) → is_in name (names_of slots) ≡ false
@@ -61,8 +61,8 @@ unnamed-kept name [] h = refl
 unnamed-kept name (Foreign stanza ∷ slots) h = ap (λ later. Foreign stanza ∷ later) (unnamed-kept name slots h)
 unnamed-kept name (Recorded entry ∷ slots) h =
     rw (
-      or-false-left (bytes_eq entry.found.name name) (is_in name (names_of slots)) h,
-      unnamed-kept name slots (or-false-right (bytes_eq entry.found.name name) (is_in name (names_of slots)) h),
+      or-false-left (bytes_eq entry.status.name name) (is_in name (names_of slots)) h,
+      unnamed-kept name slots (or-false-right (bytes_eq entry.status.name name) (is_in name (names_of slots)) h),
     ) refl
 
 -- names stay distinct with a new one behind them
@@ -103,41 +103,41 @@ distinct-without test (first ∷ names) h = by (test first) (distinct-without te
 
 -- records of distinct names have distinct names
 abbrev pub record_names : List Record → List (List ℕ)
-record_names db = map (λ found. found.name) db
+record_names db = map (λ entry. entry.name) db
 
 none-in : (name : List ℕ) (db : List Record) → All (λ other. name ≢ other.name) db → is_in name (record_names db) ≡ false
 none-in name [] h = refl
-none-in name (found ∷ db) h = elim (cases_Bool (bytes_eq found.name name)) [
-  | inl same ↦ absurd (h zero found (omega arith) (sym (bytes_eq-true found.name name same)))
-  | inr other ↦ or-both-false (bytes_eq found.name name) (is_in name (record_names db)) other
+none-in name (entry ∷ db) h = elim (cases_Bool (bytes_eq entry.name name)) [
+  | inl same ↦ absurd (h zero entry (omega arith) (sym (bytes_eq-true entry.name name same)))
+  | inr other ↦ or-both-false (bytes_eq entry.name name) (is_in name (record_names db)) other
       (none-in name db (λ k d within. h (suc k) d (omega arith)))
 ]
 
 pub distinct-from : (db : List Record) → HasDistinctNames db → AreDistinct (record_names db)
 unfolding HasDistinctNames
 distinct-from [] h = tt
-distinct-from (found ∷ db) h = (
-  none-in found.name db (λ k d within. h zero (suc k) d (omega arith) (omega arith)),
+distinct-from (entry ∷ db) h = (
+  none-in entry.name db (λ k d within. h zero (suc k) d (omega arith) (omega arith)),
   distinct-from db (λ i j d before within. h (suc i) (suc j) d (omega arith) (omega arith)),
 )
 
 each-other : (name : List ℕ) (db : List Record) → is_in name (record_names db) ≡ false → All (λ other. name ≢ other.name) db
 each-other name [] h = All-nil (λ other. name ≢ other.name)
-each-other name (found ∷ db) h = All-cons (λ other. name ≢ other.name) found db
-    (λ same. true≢false (sym (bytes_eq-same found.name name (sym same)) ∙ or-false-left (bytes_eq found.name name) (is_in name (record_names db)) h))
-    (each-other name db (or-false-right (bytes_eq found.name name) (is_in name (record_names db)) h))
+each-other name (entry ∷ db) h = All-cons (λ other. name ≢ other.name) entry db
+    (λ same. true≢false (sym (bytes_eq-same entry.name name (sym same)) ∙ or-false-left (bytes_eq entry.name name) (is_in name (record_names db)) h))
+    (each-other name db (or-false-right (bytes_eq entry.name name) (is_in name (record_names db)) h))
 
 pub distinct-to : (db : List Record) → AreDistinct (record_names db) → HasDistinctNames db
 unfolding HasDistinctNames
 distinct-to [] h = λ i j d before within. absurd (omega (arith, within))
-distinct-to (found ∷ db) h =
-    AllPairs-cons (λ earlier later. earlier.name ≢ later.name) found db (each-other found.name db h.0) (distinct-to db h.1)
+distinct-to (entry ∷ db) h =
+    AllPairs-cons (λ earlier later. earlier.name ≢ later.name) entry db (each-other entry.name db h.0) (distinct-to db h.1)
 
 -- the names of slots are those of their records
 pub names-of-records : (slots : List FileSlot) → record_names (slot_records slots) ≡ names_of slots
 names-of-records [] = refl
 names-of-records (Foreign stanza ∷ slots) = names-of-records slots
-names-of-records (Recorded entry ∷ slots) = ap (λ names. entry.found.name ∷ names) (names-of-records slots)
+names-of-records (Recorded entry ∷ slots) = ap (λ names. entry.status.name ∷ names) (names-of-records slots)
 
 pub slots-distinct-to : (slots : List FileSlot) → AreDistinct (names_of slots) → HasDistinctNames (slot_records slots)
 slots-distinct-to slots h = distinct-to (slot_records slots) (subst AreDistinct (sym (names-of-records slots)) h)
@@ -147,18 +147,18 @@ slots-distinct-from slots h = subst AreDistinct (names-of-records slots) (distin
 
 -- of slots with distinct names each is new behind those before it
 other-behind : (name : List ℕ) (slots rest : List FileSlot) (entry : FileRecord) → is_in name (names_of (slots ++ Recorded entry ∷ rest)) ≡ false
-    → bytes_eq entry.found.name name ≡ false
-other-behind name [] rest entry h = or-false-left (bytes_eq entry.found.name name) (is_in name (names_of rest)) h
+    → bytes_eq entry.status.name name ≡ false
+other-behind name [] rest entry h = or-false-left (bytes_eq entry.status.name name) (is_in name (names_of rest)) h
 other-behind name (Foreign stanza ∷ slots) rest entry h = other-behind name slots rest entry h
 other-behind name (Recorded first ∷ slots) rest entry h =
-    other-behind name slots rest entry (or-false-right (bytes_eq first.found.name name) (is_in name (names_of (slots ++ Recorded entry ∷ rest))) h)
+    other-behind name slots rest entry (or-false-right (bytes_eq first.status.name name) (is_in name (names_of (slots ++ Recorded entry ∷ rest))) h)
 
-new-record : (slots rest : List FileSlot) (entry : FileRecord) → AreDistinct (names_of (slots ++ Recorded entry ∷ rest)) → has_name entry.found.name slots ≡ false
+new-record : (slots rest : List FileSlot) (entry : FileRecord) → AreDistinct (names_of (slots ++ Recorded entry ∷ rest)) → has_name entry.status.name slots ≡ false
 new-record [] rest entry h = refl
 new-record (Foreign stanza ∷ slots) rest entry h = new-record slots rest entry h
 new-record (Recorded first ∷ slots) rest entry h =
-    or-both-false (bytes_eq first.found.name entry.found.name) (has_name entry.found.name slots)
-    (bytes_eq-flip first.found.name entry.found.name ∙ other-behind first.found.name slots rest entry h.0)
+    or-both-false (bytes_eq first.status.name entry.status.name) (has_name entry.status.name slots)
+    (bytes_eq-flip first.status.name entry.status.name ∙ other-behind first.status.name slots rest entry h.0)
     (new-record slots rest entry h.1)
 
 pub is-new : (slots rest : List FileSlot) (slot : FileSlot) → AreDistinct (names_of (slots ++ slot ∷ rest)) → IsNew slot slots

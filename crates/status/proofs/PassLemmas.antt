@@ -17,30 +17,30 @@ is_common field = not (is_called_one_of index_only field)
 
 -- a test that passes no field that an action writes or leaves out
 pub record Passes (test : Field → Bool) : Type 0 where
-  pub status : (found : Record) → test (status_of found) ≡ false
+  pub status : (entry : Record) → test (status_of entry) ≡ false
   pub config : (version : List ℕ) → test (record { name = codes "Config-Version"; value = version }) ≡ false
   pub from_package : (field : Field) → is_called (codes "Package") field ≡ true → test field ≡ false
   pub from_conffiles : (field : Field) → is_called (codes "Conffiles") field ≡ true → test field ≡ false
   pub kept : (field : Field) → test field ≡ true → is_kept field ≡ true
   pub common : (field : Field) → test field ≡ true → is_common field ≡ true
 
-pub touched_passes : (test : Field → Bool) → Passes test → (found : Record) (config_version : Option (List ℕ)) (fields : List Field)
-    → filter test (touched_fields (status_of found) config_version fields) ≡ filter test fields
-touched_passes test passes found config_version fields =
-    filter-append test (fields_called (codes "Package") fields) (status_of found ∷ flat_map (with_config_version config_version) (filter is_kept fields))
-    ∙ ap (λ front. front ++ filter test (status_of found ∷ flat_map (with_config_version config_version) (filter is_kept fields)))
+pub touched_passes : (test : Field → Bool) → Passes test → (entry : Record) (config_version : Option (List ℕ)) (fields : List Field)
+    → filter test (touched_fields (status_of entry) config_version fields) ≡ filter test fields
+touched_passes test passes entry config_version fields =
+    filter-append test (fields_called (codes "Package") fields) (status_of entry ∷ flat_map (with_config_version config_version) (filter is_kept fields))
+    ∙ ap (λ front. front ++ filter test (status_of entry ∷ flat_map (with_config_version config_version) (filter is_kept fields)))
     (none_of_both test (is_called (codes "Package")) passes.from_package fields)
-    ∙ left_out test (status_of found) (flat_map (with_config_version config_version) (filter is_kept fields)) (passes.status found)
+    ∙ left_out test (status_of entry) (flat_map (with_config_version config_version) (filter is_kept fields)) (passes.status entry)
     ∙ same_in_parts test is_kept (with_config_version config_version) (λ field _. config-same test passes.config config_version field) passes.kept fields
 
-pub unpacked_passes : (test : Field → Bool) → Passes test → (found : Record) (config_version : Option (List ℕ)) (index_fields old_fields : List Field)
-    → filter test (unpacked_fields (status_of found) config_version index_fields old_fields) ≡ filter test index_fields
-unpacked_passes test passes found config_version index_fields old_fields =
-    filter-append test (touched_fields (status_of found) config_version (fields_without index_only index_fields)) (fields_called (codes "Conffiles") old_fields)
-    ∙ ap (λ rest. filter test (touched_fields (status_of found) config_version (fields_without index_only index_fields)) ++ rest)
+pub unpacked_passes : (test : Field → Bool) → Passes test → (entry : Record) (config_version : Option (List ℕ)) (index_fields old_fields : List Field)
+    → filter test (unpacked_fields (status_of entry) config_version index_fields old_fields) ≡ filter test index_fields
+unpacked_passes test passes entry config_version index_fields old_fields =
+    filter-append test (touched_fields (status_of entry) config_version (fields_without index_only index_fields)) (fields_called (codes "Conffiles") old_fields)
+    ∙ ap (λ rest. filter test (touched_fields (status_of entry) config_version (fields_without index_only index_fields)) ++ rest)
     (none_of_both test (is_called (codes "Conffiles")) passes.from_conffiles old_fields)
-    ∙ append-nil (filter test (touched_fields (status_of found) config_version (fields_without index_only index_fields)))
-    ∙ touched_passes test passes found config_version (fields_without index_only index_fields)
+    ∙ append-nil (filter test (touched_fields (status_of entry) config_version (fields_without index_only index_fields)))
+    ∙ touched_passes test passes entry config_version (fields_without index_only index_fields)
     ∙ filter_within test is_common passes.common index_fields
 
 first_false : (a b : Bool) → (a || b) ≡ false → a ≡ false
@@ -67,7 +67,7 @@ pub passes_called : (name : List ℕ) → str_eq_ignore_ascii_case (codes "Statu
     → list_any (λ other. str_eq_ignore_ascii_case name other) written_anew ≡ false
     → list_any (λ other. str_eq_ignore_ascii_case name other) index_only ≡ false → Passes (is_called name)
 passes_called name status config pack conffiles anew only = record {
-  status = λ found. status;
+  status = λ entry. status;
   config = λ version. config;
   from_package = λ field called. other_name (codes "Package") name field called pack;
   from_conffiles = λ field called. other_name (codes "Conffiles") name field called conffiles;
@@ -86,7 +86,7 @@ neither_of_both a b c first second = rw (first, second) refl
 
 pub passes_essential : Passes marks_essential
 passes_essential = record {
-  status = λ found. refl;
+  status = λ entry. refl;
   config = λ version. refl;
   from_package = λ field called. neither_of_both _ _ _
       (other_name (codes "Package") (codes "Essential") field called refl) (other_name (codes "Package") (codes "Protected") field called refl);

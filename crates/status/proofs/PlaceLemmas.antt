@@ -37,7 +37,7 @@ pub numbered-names : (number : ℕ) (places : List (Option FileSlot)) → map (�
 numbered-names number [] = refl
 numbered-names number (None ∷ places) = numbered-names (number + 1) places
 numbered-names number (Some (Foreign stanza) ∷ places) = numbered-names (number + 1) places
-numbered-names number (Some (Recorded entry) ∷ places) = ap (λ names. entry.found.name ∷ names) (numbered-names (number + 1) places)
+numbered-names number (Some (Recorded entry) ∷ places) = ap (λ names. entry.status.name ∷ names) (numbered-names (number + 1) places)
 
 -- what is found of a name among the numbers
 abbrev pub Finds : List ℕ → ℕ → List (Option FileSlot) → Option ℕ → Type 0
@@ -51,7 +51,7 @@ finds-behind name number first places None same h = same ∙ h
 finds-behind name number first places (Some at) same h = (
   suc h.0,
   let e = h.1 in omega (arith, e),
-  record { entry = h.2.entry; there = h.2.there; named = h.2.named; found = same ∙ h.2.found },
+  record { entry = h.2.entry; there = h.2.there; named = h.2.named; entry_is = same ∙ h.2.entry_is },
 )
 
 pub finds : (name : List ℕ) (number : ℕ) (places : List (Option FileSlot))
@@ -60,15 +60,15 @@ finds name number [] = refl
 finds name number (None ∷ places) = finds-behind name number None places _ refl (finds name (number + 1) places)
 finds name number (Some (Foreign stanza) ∷ places) =
     finds-behind name number (Some (Foreign stanza)) places _ refl (finds name (number + 1) places)
-finds name number (Some (Recorded entry) ∷ places) = by (bytes_eq entry.found.name name) refl (finds name (number + 1) places)
+finds name number (Some (Recorded entry) ∷ places) = by (bytes_eq entry.status.name name) refl (finds name (number + 1) places)
   where
-    by : (b : Bool) → bytes_eq entry.found.name name ≡ b
+    by : (b : Bool) → bytes_eq entry.status.name name ≡ b
         → Finds name (number + 1) places (lookup (λ other. bytes_eq other name) (numbered (number + 1) places))
         → Finds name number (Some (Recorded entry) ∷ places) (cond b (Some number) (lookup (λ other. bytes_eq other name) (numbered (number + 1) places)))
     by true e later = (
       zero,
       omega arith,
-      record { entry = entry; there = refl; named = bytes_eq-true entry.found.name name e; found = rw e refl },
+      record { entry = entry; there = refl; named = bytes_eq-true entry.status.name name e; entry_is = rw e refl },
     )
     by false e later = finds-behind name number (Some (Recorded entry)) places _ (rw e refl) later
 
@@ -85,16 +85,16 @@ found-at name_of name places es numbers =
 
 -- a slot of the name of this entry is among those in whose places the entry stands
 pub is_in-there : (places : List (Option FileSlot)) (place : ℕ) (entry : FileRecord) → slice_get places place ≡ Some (Some (Recorded entry))
-    → is_in entry.found.name (names_of (slots_at places)) ≡ true
+    → is_in entry.status.name (names_of (slots_at places)) ≡ true
 is_in-there [] place entry there = absurd (let h = there in cc)
 is_in-there (None ∷ places) zero entry there = absurd (let h = there in cc)
 is_in-there (Some (Foreign stanza) ∷ places) zero entry there = absurd (let h = there in cc)
 is_in-there (Some (Recorded first) ∷ places) zero entry there =
-    let same : first ≡ entry = let h = there in cc in rw (bytes_eq-same first.found.name entry.found.name (ap (λ (e : FileRecord). e.found.name) same)) refl
+    let same : first ≡ entry = let h = there in cc in rw (bytes_eq-same first.status.name entry.status.name (ap (λ (e : FileRecord). e.status.name) same)) refl
 is_in-there (None ∷ places) (suc place) entry there = is_in-there places place entry there
 is_in-there (Some (Foreign stanza) ∷ places) (suc place) entry there = is_in-there places place entry there
 is_in-there (Some (Recorded first) ∷ places) (suc place) entry there =
-    rw (is_in-there places place entry there) (or-true (bytes_eq first.found.name entry.found.name))
+    rw (is_in-there places place entry there) (or-true (bytes_eq first.status.name entry.status.name))
   where
     or-true : (b : Bool) → (b || true) ≡ true
     or-true true = refl
@@ -102,42 +102,42 @@ is_in-there (Some (Recorded first) ∷ places) (suc place) entry there =
 
 -- an entry before the place has another name
 before-other : (first entry : FileRecord) (places : List (Option FileSlot)) (place : ℕ)
-    → is_in first.found.name (names_of (slots_at places)) ≡ false → slice_get places place ≡ Some (Some (Recorded entry))
-    → bytes_eq first.found.name entry.found.name ≡ false
-before-other first entry places place distinct there = by (bytes_eq first.found.name entry.found.name) refl
+    → is_in first.status.name (names_of (slots_at places)) ≡ false → slice_get places place ≡ Some (Some (Recorded entry))
+    → bytes_eq first.status.name entry.status.name ≡ false
+before-other first entry places place distinct there = by (bytes_eq first.status.name entry.status.name) refl
   where
-    by : (b : Bool) → bytes_eq first.found.name entry.found.name ≡ b → b ≡ false
+    by : (b : Bool) → bytes_eq first.status.name entry.status.name ≡ b → b ≡ false
     by false e = refl
     by true e = absurd (true≢false (sym (is_in-there places place entry there)
-        ∙ subst (λ name. is_in name (names_of (slots_at places)) ≡ false) (bytes_eq-true first.found.name entry.found.name e) distinct))
+        ∙ subst (λ name. is_in name (names_of (slots_at places)) ≡ false) (bytes_eq-true first.status.name entry.status.name e) distinct))
 
 -- the numbers stay where an entry is written over one of its name
 pub numbered-written : (number : ℕ) (places : List (Option FileSlot)) (place : ℕ) (entry new : FileRecord)
-    → slice_get places place ≡ Some (Some (Recorded entry)) → new.found.name ≡ entry.found.name
+    → slice_get places place ≡ Some (Some (Recorded entry)) → new.status.name ≡ entry.status.name
     → numbered number (slice_set places place (Some (Recorded new))) ≡ numbered number places
 numbered-written number [] place entry new there same = refl
 numbered-written number (None ∷ places) zero entry new there same = absurd (let h = there in cc)
 numbered-written number (Some (Foreign stanza) ∷ places) zero entry new there same = absurd (let h = there in cc)
 numbered-written number (Some (Recorded first) ∷ places) zero entry new there same =
     let e : entry ≡ first = let h = there in cc in
-    ap (λ name. (name, number) ∷ numbered (number + 1) places) (same ∙ ap (λ (e : FileRecord). e.found.name) e)
+    ap (λ name. (name, number) ∷ numbered (number + 1) places) (same ∙ ap (λ (e : FileRecord). e.status.name) e)
 numbered-written number (None ∷ places) (suc place) entry new there same = numbered-written (number + 1) places place entry new there same
 numbered-written number (Some (Foreign stanza) ∷ places) (suc place) entry new there same =
     numbered-written (number + 1) places place entry new there same
 numbered-written number (Some (Recorded first) ∷ places) (suc place) entry new there same =
-    ap (λ later. (first.found.name, number) ∷ later) (numbered-written (number + 1) places place entry new there same)
+    ap (λ later. (first.status.name, number) ∷ later) (numbered-written (number + 1) places place entry new there same)
 
 -- the entry of the name is changed where one is written over it
 pub slots-written : (places : List (Option FileSlot)) (place : ℕ) (entry new : FileRecord) → slice_get places place ≡ Some (Some (Recorded entry))
     → AreDistinct (names_of (slots_at places))
-    → slots_at (slice_set places place (Some (Recorded new))) ≡ changed_slots (is_named entry.found.name) (λ _. new) (slots_at places)
+    → slots_at (slice_set places place (Some (Recorded new))) ≡ changed_slots (is_named entry.status.name) (λ _. new) (slots_at places)
 slots-written [] place entry new there distinct = refl
 slots-written (None ∷ places) zero entry new there distinct = absurd (let h = there in cc)
 slots-written (Some (Foreign stanza) ∷ places) zero entry new there distinct = absurd (let h = there in cc)
 slots-written (Some (Recorded first) ∷ places) zero entry new there distinct =
-    let same : first.found.name ≡ entry.found.name = ap (λ (e : FileRecord). e.found.name) (let e : first ≡ entry = let h = there in cc in e) in
-    rw (bytes_eq-same first.found.name entry.found.name same)
-    (ap (λ later. Recorded new ∷ later) (sym (unnamed-changed entry.found.name (λ _. new) (slots_at places)
+    let same : first.status.name ≡ entry.status.name = ap (λ (e : FileRecord). e.status.name) (let e : first ≡ entry = let h = there in cc in e) in
+    rw (bytes_eq-same first.status.name entry.status.name same)
+    (ap (λ later. Recorded new ∷ later) (sym (unnamed-changed entry.status.name (λ _. new) (slots_at places)
     (subst (λ name. is_in name (names_of (slots_at places)) ≡ false) same distinct.0))))
 slots-written (None ∷ places) (suc place) entry new there distinct = slots-written places place entry new there distinct
 slots-written (Some (Foreign stanza) ∷ places) (suc place) entry new there distinct =
@@ -149,31 +149,31 @@ slots-written (Some (Recorded first) ∷ places) (suc place) entry new there dis
 -- the name loses its number where its place is emptied
 pub numbered-emptied : (number : ℕ) (places : List (Option FileSlot)) (place : ℕ) (entry : FileRecord)
     → slice_get places place ≡ Some (Some (Recorded entry)) → AreDistinct (names_of (slots_at places))
-    → numbered number (slice_set places place None) ≡ remove_entry (λ other. bytes_eq other entry.found.name) (numbered number places)
+    → numbered number (slice_set places place None) ≡ remove_entry (λ other. bytes_eq other entry.status.name) (numbered number places)
 numbered-emptied number [] place entry there distinct = refl
 numbered-emptied number (None ∷ places) zero entry there distinct = absurd (let h = there in cc)
 numbered-emptied number (Some (Foreign stanza) ∷ places) zero entry there distinct = absurd (let h = there in cc)
 numbered-emptied number (Some (Recorded first) ∷ places) zero entry there distinct =
-    let same : first.found.name ≡ entry.found.name = ap (λ (e : FileRecord). e.found.name) (let e : first ≡ entry = let h = there in cc in e) in
-    rw (bytes_eq-same first.found.name entry.found.name same) refl
+    let same : first.status.name ≡ entry.status.name = ap (λ (e : FileRecord). e.status.name) (let e : first ≡ entry = let h = there in cc in e) in
+    rw (bytes_eq-same first.status.name entry.status.name same) refl
 numbered-emptied number (None ∷ places) (suc place) entry there distinct = numbered-emptied (number + 1) places place entry there distinct
 numbered-emptied number (Some (Foreign stanza) ∷ places) (suc place) entry there distinct =
     numbered-emptied (number + 1) places place entry there distinct
 numbered-emptied number (Some (Recorded first) ∷ places) (suc place) entry there distinct =
     rw (before-other first entry places place distinct.0 there)
-    (ap (λ later. (first.found.name, number) ∷ later) (numbered-emptied (number + 1) places place entry there distinct.1))
+    (ap (λ later. (first.status.name, number) ∷ later) (numbered-emptied (number + 1) places place entry there distinct.1))
 
 -- and its slot is no more
 pub slots-emptied : (places : List (Option FileSlot)) (place : ℕ) (entry : FileRecord) → slice_get places place ≡ Some (Some (Recorded entry))
     → AreDistinct (names_of (slots_at places))
-    → slots_at (slice_set places place None) ≡ filter (λ slot. not (is_slot_named entry.found.name slot)) (slots_at places)
+    → slots_at (slice_set places place None) ≡ filter (λ slot. not (is_slot_named entry.status.name slot)) (slots_at places)
 slots-emptied [] place entry there distinct = refl
 slots-emptied (None ∷ places) zero entry there distinct = absurd (let h = there in cc)
 slots-emptied (Some (Foreign stanza) ∷ places) zero entry there distinct = absurd (let h = there in cc)
 slots-emptied (Some (Recorded first) ∷ places) zero entry there distinct =
-    let same : first.found.name ≡ entry.found.name = ap (λ (e : FileRecord). e.found.name) (let e : first ≡ entry = let h = there in cc in e) in
-    rw (bytes_eq-same first.found.name entry.found.name same)
-    (sym (unnamed-kept entry.found.name (slots_at places) (subst (λ name. is_in name (names_of (slots_at places)) ≡ false) same distinct.0)))
+    let same : first.status.name ≡ entry.status.name = ap (λ (e : FileRecord). e.status.name) (let e : first ≡ entry = let h = there in cc in e) in
+    rw (bytes_eq-same first.status.name entry.status.name same)
+    (sym (unnamed-kept entry.status.name (slots_at places) (subst (λ name. is_in name (names_of (slots_at places)) ≡ false) same distinct.0)))
 slots-emptied (None ∷ places) (suc place) entry there distinct = slots-emptied places place entry there distinct
 slots-emptied (Some (Foreign stanza) ∷ places) (suc place) entry there distinct =
     ap (λ later. Foreign stanza ∷ later) (slots-emptied places place entry there distinct)
@@ -194,7 +194,7 @@ numbered-append number (None ∷ places) more = numbered-append (number + 1) pla
 numbered-append number (Some (Foreign stanza) ∷ places) more =
     numbered-append (number + 1) places more ∙ further number places more (numbered (number + 1) places)
 numbered-append number (Some (Recorded entry) ∷ places) more =
-    ap (λ later. (entry.found.name, number) ∷ later)
+    ap (λ later. (entry.status.name, number) ∷ later)
     (numbered-append (number + 1) places more ∙ further number places more (numbered (number + 1) places))
 
 -- the names of keys

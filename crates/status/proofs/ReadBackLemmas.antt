@@ -125,12 +125,12 @@ follows_removed arch values old present says =
 
 -- an entry whose fields say its record
 abbrev IsSaid : List ℕ → FileRecord → Type 0
-IsSaid arch entry = Says arch (values_of entry.stanza.fields) entry.found
+IsSaid arch entry = Says arch (values_of entry.stanza.fields) entry.status
 
 said_back : (arch : List ℕ) (entry : FileRecord) → IsSaid arch entry → ReadsBack arch entry
 said_back arch entry said stanza seen same new =
-    says_read arch seen stanza entry.found
-    (subst (λ (values : Values). Says arch values entry.found) (ap values_of (sym same) ∙ sym (values-read stanza)) said) new
+    says_read arch seen stanza entry.status
+    (subst (λ (values : Values). Says arch values entry.status) (ap values_of (sym same) ∙ sym (values-read stanza)) said) new
 
 -- fields with a line
 with_line : Field → FieldText
@@ -145,31 +145,31 @@ back_said : (arch : List ℕ) (entry : FileRecord) → ReadsBack arch entry → 
 back_said arch entry back =
     let stanza : StanzaText = record { line = 0; raw = []; fields = map with_line entry.stanza.fields } in
     let same = without-line entry.stanza.fields in
-    subst (λ (values : Values). Says arch values entry.found) (values-read stanza ∙ ap values_of same)
-    (read_says arch [] stanza (record { found = entry.found; stanza = read_stanza stanza }) (back stanza [] same refl)).0
+    subst (λ (values : Values). Says arch values entry.status) (values-read stanza ∙ ap values_of same)
+    (read_says arch [] stanza (record { status = entry.status; stanza = read_stanza stanza }) (back stanza [] same refl)).0
 
 pub read_reads_back : ReadReadsBack
 read_reads_back arch seen stanza entry read =
     let says = read_says arch seen stanza entry read in
-    said_back arch entry (subst (λ (values : Values). Says arch values entry.found)
+    said_back arch entry (subst (λ (values : Values). Says arch values entry.status)
     (values-read stanza ∙ ap (λ (of : Stanza). values_of of.fields) says.1) says.0)
 
-touched_said : (arch : List ℕ) (entry : FileRecord) (next : Record) → is_present_state entry.found.state ≡ true → IsSaid arch entry → Follows entry.found next
+touched_said : (arch : List ℕ) (entry : FileRecord) (next : Record) → is_present_state entry.status.state ≡ true → IsSaid arch entry → Follows entry.status next
     → ReadsBack arch (touched_entry (λ _. next) entry)
 touched_said arch entry next present said follows =
     said_back arch (touched_entry (λ _. next) entry)
     (subst (λ (values : Values). Says arch values next)
-    (sym (values-touched next (written_config_version next.state next.config_version) (lasting_fields entry.found.state entry.stanza.fields)
-    ∙ ap (written_values (status_of next).value (written_config_version next.state next.config_version)) (values-lasting entry.found.state entry.stanza.fields)))
-    (says-later arch (values_of entry.stanza.fields) entry.found next present said follows))
+    (sym (values-touched next (written_config_version next.state next.config_version) (lasting_fields entry.status.state entry.stanza.fields)
+    ∙ ap (written_values (status_of next).value (written_config_version next.state next.config_version)) (values-lasting entry.status.state entry.stanza.fields)))
+    (says-later arch (values_of entry.stanza.fields) entry.status next present said follows))
 
 pub touched_reads_back : TouchedReadsBack
 touched_reads_back arch entry present back =
     let said = back_said arch entry back in
     let values = values_of entry.stanza.fields in (
-      touched_said arch entry (deconfigured entry.found) present said (follows_deconfigured arch values entry.found present said),
-      touched_said arch entry (configured entry.found) present said (follows_configured entry.found),
-      touched_said arch entry (removed entry.found) present said (follows_removed arch values entry.found present said),
+      touched_said arch entry (deconfigured entry.status) present said (follows_deconfigured arch values entry.status present said),
+      touched_said arch entry (configured entry.status) present said (follows_configured entry.status),
+      touched_said arch entry (removed entry.status) present said (follows_removed arch values entry.status present said),
     )
 
 -- the steps of reading a stanza of an index
@@ -204,19 +204,19 @@ says-unpacked arch place stanza config_version sound faultless counted =
     let name = sound-name fields.line fields.name (none-front (pkg_name_fault fields) later faultless) in
     let rest = none-back (pkg_name_fault fields) later faultless in
     let version = sound-there true fields.line fields.version (none-front (pkg_version_fault fields) (relations_fault fields) rest) in
-    let found = unpacked_with (indexed_at place stanza (pkg_of arch fields)).listed config_version in
+    let entry = unpacked_with (indexed_at place stanza (pkg_of arch fields)).listed config_version in
     let behind = behind-some (values_in stanza).version config_version (version.0 refl) in
     record {
       name = name.0;
       valid = name.1;
-      status = words-read found.want found.flag found.state;
+      status = words-read entry.want entry.flag entry.state;
       counted = counted;
       version = sym (text-value fields.version);
       there = λ _. version.0 refl;
       version_sound = version.1;
       config_sound = ap (option_and_then first_fault) behind ∙ sound;
       config_version = behind;
-      relations_sound = λ _. sound-written (status_of found).value config_version (values_in stanza)
+      relations_sound = λ _. sound-written (status_of entry).value config_version (values_in stanza)
           (sound-relations stanza (none-back (pkg_version_fault fields) (relations_fault fields) rest));
       relations = relations-same arch stanza;
       essential = refl;
@@ -225,7 +225,7 @@ says-unpacked arch place stanza config_version sound faultless counted =
 -- the entry of a package of an index unpacked in front of these fields, with this config version
 abbrev entry_over : IndexStanza → Option (List ℕ) → List Field → FileRecord
 entry_over indexed config_version old_fields = record {
-  found = unpacked_with indexed.listed config_version;
+  status = unpacked_with indexed.listed config_version;
   stanza = record { fields = unpacked_fields (status_of (unpacked_with indexed.listed config_version)) config_version indexed.fields old_fields; bytes = None };
 }
 
@@ -237,10 +237,10 @@ unpacked_said arch place stanza indexed config_version old_fields read sound =
     (name-read (pkg_name_fault fields) (read_native arch place stanza (value_named (codes "Architecture") stanza.fields)) indexed read) in
     let is = indexed-read place stanza (pkg_fault fields) (pkg_of arch fields) indexed native.1 in
     let spelled = indexed_at place stanza (pkg_of arch fields) in
-    let found = unpacked_with spelled.listed config_version in
-    let said : Says arch (values_of (entry_over spelled config_version old_fields).stanza.fields) found =
-    subst (λ (values : Values). Says arch values found)
-    (ap (written_values (status_of found).value config_version) (values-read stanza) ∙ sym (values-unpacked found config_version (map field_of stanza.fields) old_fields))
+    let entry = unpacked_with spelled.listed config_version in
+    let said : Says arch (values_of (entry_over spelled config_version old_fields).stanza.fields) entry =
+    subst (λ (values : Values). Says arch values entry)
+    (ap (written_values (status_of entry).value config_version) (values-read stanza) ∙ sym (values-unpacked entry config_version (map field_of stanza.fields) old_fields))
     (says-unpacked arch place stanza config_version sound is.0 native.0) in
     subst (λ (of : IndexStanza). ReadsBack arch (entry_over of config_version old_fields)) is.1
     (said_back arch (entry_over spelled config_version old_fields) said)
@@ -252,8 +252,8 @@ kept-sound false version sound = refl
 pub unpacked_reads_back : UnpackedReadsBack
 unpacked_reads_back arch place stanza indexed read = (
   unpacked_said arch place stanza indexed None [] read refl,
-  λ (entry : FileRecord) (back : ReadsBack arch entry). unpacked_said arch place stanza indexed (kept_config_version entry.found) entry.stanza.fields read
-      (kept-sound _ (last_configured entry.found) (λ kept. last-read arch (values_of entry.stanza.fields) entry.found (there entry.found.state kept) (back_said arch entry back))),
+  λ (entry : FileRecord) (back : ReadsBack arch entry). unpacked_said arch place stanza indexed (kept_config_version entry.status) entry.stanza.fields read
+      (kept-sound _ (last_configured entry.status) (λ kept. last-read arch (values_of entry.stanza.fields) entry.status (there entry.status.state kept) (back_said arch entry back))),
 )
   where
     there : (state : State) → (is_unconfigured_state state || is_installed_state state) ≡ true → is_present_state state ≡ true

@@ -128,55 +128,55 @@ says-record arch stanza mark marked counted sound =
     }
 
 pub read_says : (arch : List ℕ) (seen : List (List ℕ)) (stanza : StanzaText) (entry : FileRecord) → read_slot arch seen stanza ≡ Ok (Recorded entry)
-    → Says arch (values_in stanza) entry.found × (read_stanza stanza ≡ entry.stanza)
+    → Says arch (values_in stanza) entry.status × (read_stanza stanza ≡ entry.stanza)
 read_says arch seen stanza entry read =
     let marked = slot-marked arch seen stanza (read_mark stanza) entry read in
     let mark = marked.0 in
     let counted = slot-counted arch seen stanza mark (counts arch stanza mark.state) entry marked.2 in
     let new = slot-new (is_seen seen (name_in stanza)) (fault.DuplicatePackage (name_in stanza)) (later_fault mark.state stanza) (entry_of arch stanza mark) entry counted.1 in (
-      subst (λ (of : FileRecord). Says arch (values_in stanza) of.found) new.1 (says-record arch stanza mark marked.1 counted.0 new.0),
+      subst (λ (of : FileRecord). Says arch (values_in stanza) of.status) new.1 (says-record arch stanza mark marked.1 counted.0 new.0),
       ap (λ (of : FileRecord). of.stanza) new.1,
     )
 
 -- a stanza whose values say a record is read as it
-record-made : (arch : List ℕ) (stanza : StanzaText) (found : Record) → Says arch (values_in stanza) found
-    → record_of arch stanza (record { want = found.want; flag = found.flag; state = found.state }) ≡ found
-record-made arch stanza found says =
-    let name = value-text (fields_of stanza).name found.name says.name in
-    let relations = sym (ap (λ (relations : Relations). if is_present_state found.state then relations else no_relations) (relations-same arch stanza)) ∙ says.relations in
+record-made : (arch : List ℕ) (stanza : StanzaText) (entry : Record) → Says arch (values_in stanza) entry
+    → record_of arch stanza (record { want = entry.want; flag = entry.flag; state = entry.state }) ≡ entry
+record-made arch stanza entry says =
+    let name = value-text (fields_of stanza).name entry.name says.name in
+    let relations = sym (ap (λ (relations : Relations). if is_present_state entry.state then relations else no_relations) (relations-same arch stanza)) ∙ says.relations in
     let same : ◌≡◌ {A = Record} (record {
       name = name_in stanza;
-      state = found.state;
-      want = found.want;
-      flag = found.flag;
+      state = entry.state;
+      want = entry.want;
+      flag = entry.flag;
       version = unwrap_or (text_in (version_field stanza)) [];
-      config_version = config_version_at found.state (text_in (version_field stanza)) (text_in (config_version_field stanza));
-      relations = if is_present_state found.state then relations_of arch (fields_of stanza) else no_relations;
+      config_version = config_version_at entry.state (text_in (version_field stanza)) (text_in (config_version_field stanza));
+      relations = if is_present_state entry.state then relations_of arch (fields_of stanza) else no_relations;
       is_essential = (values_in stanza).is_essential;
-    }) found = same_record found _ _ _ _ _ name says.version says.config_version relations says.essential in same
+    }) entry = same_record entry _ _ _ _ _ name says.version says.config_version relations says.essential in same
   where
-    same_record : (found : Record) (name version : List ℕ) (config_version : Option (List ℕ)) (relations : Relations) (is_essential : Bool)
-        → name ≡ found.name → version ≡ found.version → config_version ≡ found.config_version → relations ≡ found.relations → is_essential ≡ found.is_essential
-        → ◌≡◌ {A = Record} (record { name = name; state = found.state; want = found.want; flag = found.flag; version = version; config_version = config_version; relations = relations; is_essential = is_essential }) found
-    same_record found name version config_version relations is_essential n v c r e = rw (n, v, c, r, e) refl
+    same_record : (entry : Record) (name version : List ℕ) (config_version : Option (List ℕ)) (relations : Relations) (is_essential : Bool)
+        → name ≡ entry.name → version ≡ entry.version → config_version ≡ entry.config_version → relations ≡ entry.relations → is_essential ≡ entry.is_essential
+        → ◌≡◌ {A = Record} (record { name = name; state = entry.state; want = entry.want; flag = entry.flag; version = version; config_version = config_version; relations = relations; is_essential = is_essential }) entry
+    same_record entry name version config_version relations is_essential n v c r e = rw (n, v, c, r, e) refl
 
-pub says_read : (arch : List ℕ) (seen : List (List ℕ)) (stanza : StanzaText) (found : Record) → Says arch (values_in stanza) found
-    → is_seen seen found.name ≡ false → read_slot arch seen stanza ≡ Ok (Recorded (record { found = found; stanza = read_stanza stanza }))
-says_read arch seen stanza found says new =
+pub says_read : (arch : List ℕ) (seen : List (List ℕ)) (stanza : StanzaText) (entry : Record) → Says arch (values_in stanza) entry
+    → is_seen seen entry.name ≡ false → read_slot arch seen stanza ≡ Ok (Recorded (record { status = entry; stanza = read_stanza stanza }))
+says_read arch seen stanza entry says new =
     let fields = fields_of stanza in
-    let mark : Mark = record { want = found.want; flag = found.flag; state = found.state } in
-    let name = value-text fields.name found.name says.name in
+    let mark : Mark = record { want = entry.want; flag = entry.flag; state = entry.state } in
+    let name = value-text fields.name entry.name says.name in
     let marked : read_mark stanza ≡ Ok mark =
-    ap (λ (refused : Option PkgFault). unless_fault refused (mark_in stanza (field_named (codes "Status") stanza.fields))) (name-sound fields.line fields.name found.name says.name says.valid)
+    ap (λ (refused : Option PkgFault). unless_fault refused (mark_in stanza (field_named (codes "Status") stanza.fields))) (name-sound fields.line fields.name entry.name says.name says.valid)
     ∙ value-mark stanza (field_named (codes "Status") stanza.fields) mark says.status in
-    let counted : counts arch stanza found.state ≡ Ok true = value-counted arch stanza found.state (value_named (codes "Architecture") stanza.fields) says.counted in
-    let sound : later_fault found.state stanza ≡ None =
-    none-both (version_fault_at found.state stanza) (option_or (config_version_fault stanza) (relations_fault_at found.state fields))
-    (there-sound (is_present_state found.state) fields.line fields.version says.there says.version_sound)
-    (none-both (config_version_fault stanza) (relations_fault_at found.state fields)
+    let counted : counts arch stanza entry.state ≡ Ok true = value-counted arch stanza entry.state (value_named (codes "Architecture") stanza.fields) says.counted in
+    let sound : later_fault entry.state stanza ≡ None =
+    none-both (version_fault_at entry.state stanza) (option_or (config_version_fault stanza) (relations_fault_at entry.state fields))
+    (there-sound (is_present_state entry.state) fields.line fields.version says.there says.version_sound)
+    (none-both (config_version_fault stanza) (relations_fault_at entry.state fields)
     (version-sound (config_version_field stanza) says.config_sound)
-    (present_when (is_present_state found.state) (relations_fault fields) (λ present. relations-sound stanza (says.relations_sound present)))) in
+    (present_when (is_present_state entry.state) (relations_fault fields) (λ present. relations-sound stanza (says.relations_sound present)))) in
     ap (read_marked arch seen stanza) marked ∙ ap (read_counted arch seen stanza mark) counted
-    ∙ new-slot (is_seen seen (name_in stanza)) (fault.DuplicatePackage (name_in stanza)) (later_fault found.state stanza) (entry_of arch stanza mark)
-    (record { found = found; stanza = read_stanza stanza })
-    (ap (is_seen seen) name ∙ new) sound (ap (λ (of : Record). record { found = of; stanza = read_stanza stanza }) (record-made arch stanza found says))
+    ∙ new-slot (is_seen seen (name_in stanza)) (fault.DuplicatePackage (name_in stanza)) (later_fault entry.state stanza) (entry_of arch stanza mark)
+    (record { status = entry; stanza = read_stanza stanza })
+    (ap (is_seen seen) name ∙ new) sound (ap (λ (of : Record). record { status = of; stanza = read_stanza stanza }) (record-made arch stanza entry says))

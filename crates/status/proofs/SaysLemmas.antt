@@ -9,8 +9,8 @@ use Rattle.relation.specs.declared.error.PkgFault.TheVariants.{BadVersion}
 use Rattle.relation_text.specs.Refusal.{fault_of}
 use Rattle.relation_text.specs.Spelling.{atoms_between, clauses_of, provided_items_of}
 use Rattle.relation_text.specs.declared.cut.Separator.TheVariants.{Comma}
-use Rattle.relation_text.specs.declared.shape.Form.{Form}
-use Rattle.relation_text.specs.declared.shape.Form.TheVariants.{Clauses, Atoms, Provides}
+use Rattle.relation_text.specs.declared.shape.RelationForm.{RelationForm}
+use Rattle.relation_text.specs.declared.shape.RelationForm.TheVariants.{Clauses, Atoms, Provides}
 use Rattle.rules.specs.Database.{Record}
 use Rattle.rules.specs.Name.{is_name}
 use Rattle.rules.specs.Package.{Relations}
@@ -48,19 +48,19 @@ pub record AreSound (values : Values) : Type 0 where
   pub provides : option_and_then (fault_of Provides) values.provides ≡ None
 
 -- the values say the record
-pub record Says (arch : List ℕ) (values : Values) (found : Record) : Type 0 where
-  pub name : values.name ≡ Some found.name
-  pub valid : is_name found.name ≡ true
-  pub status : option_and_then read_words values.status ≡ Some (record { want = found.want; flag = found.flag; state = found.state })
-  pub counted : counts_value arch found.state values.architecture ≡ true
-  pub version : unwrap_or values.version [] ≡ found.version
-  pub there : is_present_state found.state ≡ true → is_some values.version ≡ true
+pub record Says (arch : List ℕ) (values : Values) (entry : Record) : Type 0 where
+  pub name : values.name ≡ Some entry.name
+  pub valid : is_name entry.name ≡ true
+  pub status : option_and_then read_words values.status ≡ Some (record { want = entry.want; flag = entry.flag; state = entry.state })
+  pub counted : counts_value arch entry.state values.architecture ≡ true
+  pub version : unwrap_or values.version [] ≡ entry.version
+  pub there : is_present_state entry.state ≡ true → is_some values.version ≡ true
   pub version_sound : option_and_then first_fault values.version ≡ None
   pub config_sound : option_and_then first_fault values.config_version ≡ None
-  pub config_version : config_version_at found.state values.version values.config_version ≡ found.config_version
-  pub relations_sound : is_present_state found.state ≡ true → AreSound values
-  pub relations : (if is_present_state found.state then relations_in arch values else no_relations) ≡ found.relations
-  pub essential : values.is_essential ≡ found.is_essential
+  pub config_version : config_version_at entry.state values.version values.config_version ≡ entry.config_version
+  pub relations_sound : is_present_state entry.state ≡ true → AreSound values
+  pub relations : (if is_present_state entry.state then relations_in arch values else no_relations) ≡ entry.relations
+  pub essential : values.is_essential ≡ entry.is_essential
 
 pub none-front : {K : Type 0} (first second : Option K) → option_or first second ≡ None → first ≡ None
 none-front None second h = refl
@@ -90,11 +90,11 @@ version-sound None h = refl
 version-sound (Some field) h = none-map (λ kind. BadVersion field.line kind) (first_fault field.value) h
 
 -- a relation field is refused by its value
-sound-relation : (form : Form) (field : Option FieldText) → relation_fault_in form field ≡ None → option_and_then (fault_of form) (text_in field) ≡ None
+sound-relation : (form : RelationForm) (field : Option FieldText) → relation_fault_in form field ≡ None → option_and_then (fault_of form) (text_in field) ≡ None
 sound-relation form None h = refl
 sound-relation form (Some field) h = map-none (on_line field.line) (fault_of form field.value) h
 
-relation-sound : (form : Form) (field : Option FieldText) → option_and_then (fault_of form) (text_in field) ≡ None → relation_fault_in form field ≡ None
+relation-sound : (form : RelationForm) (field : Option FieldText) → option_and_then (fault_of form) (text_in field) ≡ None → relation_fault_in form field ≡ None
 relation-sound form None h = refl
 relation-sound form (Some field) h = none-map (on_line field.line) (fault_of form field.value) h
 

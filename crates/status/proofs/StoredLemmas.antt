@@ -92,7 +92,7 @@ reads-itself stanza can =
     by (one ∷ []) items same =
         let is : read_stanza one ≡ as_written stanza = let e = same in cc in
         let raw : one.raw ≡ text = bytes-same one.raw text (ap (λ (s : Stanza). s.bytes) is) in
-        let itself = items_of-IsAlone Plain text one (subst (λ found. Contains found (Ok one)) (sym items) (Contains-head (Ok one) [])) in
+        let itself = items_of-IsAlone Plain text one (subst (λ list. Contains list (Ok one)) (sym items) (Contains-head (Ok one) [])) in
         let alone : items_of Plain text ≡ Ok (first_of text) ∷ [] =
         ap (items_of Plain) (sym raw) ∙ itself.alone ∙ ap (λ (bytes : List ℕ). Ok (first_of bytes) ∷ []) raw in
         (alone, ap read_stanza (one-same (first_of text) one (sym alone ∙ items)) ∙ is)
@@ -104,7 +104,7 @@ alone-stored arch (Recorded entry) can =
     let itself = first_of (stanza_text entry.stanza) in
     ap (alone_in arch) read.0
     ∙ ap unless_refused (can.1 itself [] (ap (λ (s : Stanza). s.fields) read.1) refl)
-    ∙ ap (λ (s : Stanza). Some (Recorded (record { found = entry.found; stanza = s }))) read.1
+    ∙ ap (λ (s : Stanza). Some (Recorded (record { status = entry.status; stanza = s }))) read.1
 alone-stored arch (Foreign stanza) can =
     let read = reads-itself (read_stanza stanza) (inl can.0) in
     ap (alone_in arch) read.0 ∙ ap unless_refused (can.1 (by_itself stanza) [] (ap (λ (s : Stanza). s.fields) read.1))
@@ -130,7 +130,7 @@ read-alone arch (Ok stanza ∷ []) slot h = (stanza, refl, by (read_slot arch []
   where
     by : (read : Result FileSlot StatusFault) → unless_refused read ≡ Some slot → read ≡ Ok slot
     by (Err refused) h = absurd (let e = h in cc)
-    by (Ok found) h = let e = h in cc
+    by (Ok own) h = let e = h in cc
 
 pub stored-faithful : (arch text : List ℕ) (slot : FileSlot) → IsStored arch text slot → IsFaithfulSlot arch slot
 stored-faithful arch text slot kept =

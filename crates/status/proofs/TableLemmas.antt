@@ -19,7 +19,7 @@ use Rattle.status.proofs.PlaceLemmas.{found-at, is_in-there, numbered-append, nu
 pub none-named : (name : List ℕ) (slots : List FileSlot) → entry_named name slots ≡ None → is_in name (names_of slots) ≡ false
 none-named name [] h = refl
 none-named name (Foreign stanza ∷ slots) h = none-named name slots h
-none-named name (Recorded entry ∷ slots) h = by (bytes_eq entry.found.name name) h (none-named name slots)
+none-named name (Recorded entry ∷ slots) h = by (bytes_eq entry.status.name name) h (none-named name slots)
   where
     by : (b : Bool) → cond b (Some entry) (entry_named name slots) ≡ None
         → (entry_named name slots ≡ None → is_in name (names_of slots) ≡ false) → (b || is_in name (names_of slots)) ≡ false
@@ -28,8 +28,8 @@ none-named name (Recorded entry ∷ slots) h = by (bytes_eq entry.found.name nam
 
 module _ (name : List ℕ) (es : List (List ℕ × ℕ)) (places : List (Option FileSlot)) (table : IsTable es places) where
   -- an entry written over that of its name
-  module _ (place : ℕ) (at : IsAt name places place) (new : FileRecord) (same : new.found.name ≡ name) where
-    named-alike : new.found.name ≡ at.entry.found.name
+  module _ (place : ℕ) (at : IsAt name places place) (new : FileRecord) (same : new.status.name ≡ name) where
+    named-alike : new.status.name ≡ at.entry.status.name
     named-alike = same ∙ sym at.named
 
     numbers-written : numbered 0 (slice_set places place (Some (Recorded new))) ≡ numbered 0 places
@@ -89,8 +89,8 @@ slots-behind places more = flat_map-append option_to_list places more
 
 pub names-behind : (slots more : List FileSlot) → names_of (slots ++ more) ≡ names_of slots ++ names_of more
 names-behind slots more =
-    ap (map (λ (entry : FileRecord). entry.found.name)) (flat_map-append entry_in slots more)
-    ∙ map-append (λ (entry : FileRecord). entry.found.name) (entries_of slots) (entries_of more)
+    ap (map (λ (entry : FileRecord). entry.status.name)) (flat_map-append entry_in slots more)
+    ∙ map-append (λ (entry : FileRecord). entry.status.name) (entries_of slots) (entries_of more)
 
 -- a stanza without a record behind the others
 pub table-kept : (es : List (List ℕ × ℕ)) (places : List (Option FileSlot)) (stanza : StanzaText) → IsTable es places
@@ -103,13 +103,13 @@ table-kept es places stanza table = (
 
 -- a record of a new name behind the others
 pub table-pushed : (es : List (List ℕ × ℕ)) (places : List (Option FileSlot)) (entry : FileRecord)
-    → IsTable es places → is_in entry.found.name (names_of (slots_at places)) ≡ false
-    → IsTable (es ++ (entry.found.name, length places) ∷ []) (places ++ Some (Recorded entry) ∷ [])
+    → IsTable es places → is_in entry.status.name (names_of (slots_at places)) ≡ false
+    → IsTable (es ++ (entry.status.name, length places) ∷ []) (places ++ Some (Recorded entry) ∷ [])
 table-pushed es places entry table fresh = (
-  (λ i. table.0 i ++ (entry.found.name, length places) ∷ []) ∙ ap (λ n. numbered 0 places ++ (entry.found.name, n) ∷ []) zero-first
+  (λ i. table.0 i ++ (entry.status.name, length places) ∷ []) ∙ ap (λ n. numbered 0 places ++ (entry.status.name, n) ∷ []) zero-first
       ∙ sym (numbered-append 0 places (Some (Recorded entry) ∷ [])),
   subst AreDistinct (sym (ap names_of (slots-behind places (Some (Recorded entry) ∷ [])) ∙ names-behind (slots_at places) (Recorded entry ∷ [])))
-      (distinct-behind (names_of (slots_at places)) entry.found.name table.1 fresh),
+      (distinct-behind (names_of (slots_at places)) entry.status.name table.1 fresh),
 )
   where
     zero-first : length places ≡ 0 + length places

@@ -43,7 +43,7 @@ read-behind arch texts text slot read =
 kept-behind : (arch : List ℕ) (texts : List (Option (List ℕ))) (text : List ℕ) (slot : FileSlot) → AreKept arch texts → IsStored arch text slot
     → AreKept arch (texts ++ Some text ∷ [])
 kept-behind arch texts text slot kept stored =
-    all-append (λ place. IfSome place (λ t. (found : FileSlot) × IsStored arch t found)) texts (Some text ∷ []) kept ((slot, stored), tt)
+    all-append (λ place. IfSome place (λ t. (kept_slot : FileSlot) × IsStored arch t kept_slot)) texts (Some text ∷ []) kept ((slot, stored), tt)
 
 pub foreign-pushed : (arch : List ℕ) (es : List (List ℕ × ℕ)) (texts : List (Option (List ℕ))) (text : List ℕ) (stanza : _) → IsTextTable arch es texts
     → IsStored arch text (Foreign stanza) → IsTextTable arch es (texts ++ Some text ∷ [])
@@ -53,12 +53,12 @@ foreign-pushed arch es texts text stanza table stored = (
 )
 
 pub recorded-pushed : (arch : List ℕ) (es pushed : List (List ℕ × ℕ)) (texts : List (Option (List ℕ))) (text : List ℕ) (entry : FileRecord) → IsTextTable arch es texts
-    → IsTextOf arch text entry → is_in entry.found.name (names_of (slots_at (slots_read arch texts))) ≡ false
-    → pushed ≡ es ++ (entry.found.name, length texts) ∷ [] → IsTextTable arch pushed (texts ++ Some text ∷ [])
+    → IsTextOf arch text entry → is_in entry.status.name (names_of (slots_at (slots_read arch texts))) ≡ false
+    → pushed ≡ es ++ (entry.status.name, length texts) ∷ [] → IsTextTable arch pushed (texts ++ Some text ∷ [])
 recorded-pushed arch es pushed texts text entry table stored fresh is = (
   subst (λ names. IsTable names (slots_read arch (texts ++ Some text ∷ []))) (sym is)
-      (subst (IsTable (es ++ (entry.found.name, length texts) ∷ [])) (sym (read-behind arch texts text (Recorded entry) stored.read))
-      (subst (λ n. IsTable (es ++ (entry.found.name, n) ∷ []) (slots_read arch texts ++ Some (Recorded entry) ∷ [])) (map-length texts)
+      (subst (IsTable (es ++ (entry.status.name, length texts) ∷ [])) (sym (read-behind arch texts text (Recorded entry) stored.read))
+      (subst (λ n. IsTable (es ++ (entry.status.name, n) ∷ []) (slots_read arch texts ++ Some (Recorded entry) ∷ [])) (map-length texts)
       (table-pushed es (slots_read arch texts) entry table.0 fresh))),
   kept-behind arch texts text (Recorded entry) table.1 stored,
 )
@@ -85,14 +85,14 @@ in-places {T} text_of places place text = map-set (λ (p : Option T). option_map
 
 module _ (arch name : List ℕ) (es : List (List ℕ × ℕ)) (texts : List (Option (List ℕ))) (table : IsTextTable arch es texts)
     (place : ℕ) (at : IsAt name (slots_read arch texts) place) where
-  pub text-written : (text : List ℕ) (entry : FileRecord) → IsTextOf arch text entry → entry.found.name ≡ name → IsTextTable arch es (slice_set texts place (Some text))
+  pub text-written : (text : List ℕ) (entry : FileRecord) → IsTextOf arch text entry → entry.status.name ≡ name → IsTextTable arch es (slice_set texts place (Some text))
   text-written text entry stored named = (
     subst (IsTable es) (sym (texts-set arch texts place (Some text) (Some (Recorded entry)) stored.read))
         (table-written name es (slots_read arch texts) table.0 place at entry named),
     kept-set arch texts place (Some text) table.1 (Recorded entry, stored),
   )
 
-  pub slots-written : (text : List ℕ) (entry : FileRecord) → alone arch text ≡ Some (Recorded entry) → entry.found.name ≡ name
+  pub slots-written : (text : List ℕ) (entry : FileRecord) → alone arch text ≡ Some (Recorded entry) → entry.status.name ≡ name
       → slots_at (slots_read arch (slice_set texts place (Some text))) ≡ changed_slots (is_named name) (λ _. entry) (slots_at (slots_read arch texts))
   slots-written text entry read named =
       ap slots_at (texts-set arch texts place (Some text) (Some (Recorded entry)) read)
@@ -126,8 +126,8 @@ entry-in {T} text_of arch places place text there =
     ∙ ap entry_at (sym (slice_get-map (option_and_then (alone arch)) (texts_in text_of places) place
     ∙ ap (option_map (option_and_then (alone arch))) (slice_get-map (λ (p : Option T). option_map (λ t. text_of t) p) places place)))
   where
-    by : (found : Option (Option T)) → Some text ≡ inside found
-        → entry_at (Some (alone arch (text_of text))) ≡ entry_at (option_map (option_and_then (alone arch)) (option_map (λ p. option_map (λ t. text_of t) p) found))
+    by : (held : Option (Option T)) → Some text ≡ inside held
+        → entry_at (Some (alone arch (text_of text))) ≡ entry_at (option_map (option_and_then (alone arch)) (option_map (λ p. option_map (λ t. text_of t) p) held))
     by None h = absurd (let e = h in cc)
     by (Some None) h = absurd (let e = h in cc)
     by (Some (Some other)) h = let same : text ≡ other = let e = h in cc in ap (λ (t : T). entry_at (Some (alone arch (text_of t)))) same
@@ -139,8 +139,8 @@ entry-out {T} text_of arch places place there =
     ∙ ap entry_at (sym (slice_get-map (option_and_then (alone arch)) (texts_in text_of places) place
     ∙ ap (option_map (option_and_then (alone arch))) (slice_get-map (λ (p : Option T). option_map (λ t. text_of t) p) places place)))
   where
-    by : (found : Option (Option T)) → None ≡ inside found
-        → ◌≡◌ {A = Option FileRecord} None (entry_at (option_map (option_and_then (alone arch)) (option_map (λ p. option_map (λ t. text_of t) p) found)))
+    by : (held : Option (Option T)) → None ≡ inside held
+        → ◌≡◌ {A = Option FileRecord} None (entry_at (option_map (option_and_then (alone arch)) (option_map (λ p. option_map (λ t. text_of t) p) held)))
     by None h = refl
     by (Some None) h = refl
     by (Some (Some other)) h = absurd (let e = h in cc)

@@ -24,46 +24,46 @@ use Rattle.status.specs.Written.{entry_over}
 
 -- a record of the name is this one
 abbrev IsOnlyIn : List ℕ → FileRecord → FileSlot → Type 0
-IsOnlyIn name old (Recorded entry) = is_named name entry.found ≡ true → entry ≡ old
+IsOnlyIn name old (Recorded entry) = is_named name entry.status ≡ true → entry ≡ old
 IsOnlyIn name old (Foreign stanza) = ⊤
 
 none-only : (name : List ℕ) (old : FileRecord) (slots : List FileSlot) → is_in name (names_of slots) ≡ false → AllByRecursion (IsOnlyIn name old) slots
 none-only name old [] none = tt
 none-only name old (Foreign stanza ∷ slots) none = (tt, none-only name old slots none)
 none-only name old (Recorded entry ∷ slots) none = (
-  λ named. absurd (true≢false (sym named ∙ or-false-left (bytes_eq entry.found.name name) (is_in name (names_of slots)) none)),
-  none-only name old slots (or-false-right (bytes_eq entry.found.name name) (is_in name (names_of slots)) none),
+  λ named. absurd (true≢false (sym named ∙ or-false-left (bytes_eq entry.status.name name) (is_in name (names_of slots)) none)),
+  none-only name old slots (or-false-right (bytes_eq entry.status.name name) (is_in name (names_of slots)) none),
 )
 
 -- of distinct names the record that is found is the only one of its name
 pub found-only : (name : List ℕ) (old : FileRecord) (slots : List FileSlot) → AreDistinct (names_of slots) → entry_named name slots ≡ Some old
     → AllByRecursion (IsOnlyIn name old) slots
-found-only name old [] distinct found = tt
-found-only name old (Foreign stanza ∷ slots) distinct found = (tt, found-only name old slots distinct found)
-found-only name old (Recorded entry ∷ slots) distinct found = by (bytes_eq entry.found.name name) refl found (found-only name old slots distinct.1)
+found-only name old [] distinct there = tt
+found-only name old (Foreign stanza ∷ slots) distinct there = (tt, found-only name old slots distinct there)
+found-only name old (Recorded entry ∷ slots) distinct there = by (bytes_eq entry.status.name name) refl there (found-only name old slots distinct.1)
   where
-    by : (b : Bool) → bytes_eq entry.found.name name ≡ b → cond b (Some entry) (entry_named name slots) ≡ Some old
+    by : (b : Bool) → bytes_eq entry.status.name name ≡ b → cond b (Some entry) (entry_named name slots) ≡ Some old
         → (entry_named name slots ≡ Some old → AllByRecursion (IsOnlyIn name old) slots)
-        → (is_named name entry.found ≡ true → entry ≡ old) × AllByRecursion (IsOnlyIn name old) slots
+        → (is_named name entry.status ≡ true → entry ≡ old) × AllByRecursion (IsOnlyIn name old) slots
     by true e h later = (
       λ named. let k = h in cc,
-      none-only name old slots (subst (λ n. is_in n (names_of slots) ≡ false) (bytes_eq-true entry.found.name name e) distinct.0),
+      none-only name old slots (subst (λ n. is_in n (names_of slots) ≡ false) (bytes_eq-true entry.status.name name e) distinct.0),
     )
     by false e h later = (λ named. absurd (true≢false (sym named ∙ e)), later h)
 
 -- one more name changed
 module _ (name : List ℕ) (change : FileRecord → FileRecord) (old : FileRecord) (before after : Record → Bool)
-    (same : (entry : FileRecord) → before entry.found ≡ true → (change entry).found.name ≡ entry.found.name)
-    (more : (found : Record) → after found ≡ (before found || is_named name found)) where
-  entry-more : (entry : FileRecord) → (is_named name entry.found ≡ true → entry ≡ old)
-      → (if is_named name (if before entry.found then change entry else entry).found then written (change old)
-      else written (if before entry.found then change entry else entry)) ≡ written (if after entry.found then change entry else entry)
+    (same : (entry : FileRecord) → before entry.status ≡ true → (change entry).status.name ≡ entry.status.name)
+    (more : (one : Record) → after one ≡ (before one || is_named name one)) where
+  entry-more : (entry : FileRecord) → (is_named name entry.status ≡ true → entry ≡ old)
+      → (if is_named name (if before entry.status then change entry else entry).status then written (change old)
+      else written (if before entry.status then change entry else entry)) ≡ written (if after entry.status then change entry else entry)
   entry-more entry only =
-      by (before entry.found) (is_named name entry.found) refl refl
-      ∙ ap (λ b. written (if b then change entry else entry)) (sym (more entry.found))
+      by (before entry.status) (is_named name entry.status) refl refl
+      ∙ ap (λ b. written (if b then change entry else entry)) (sym (more entry.status))
     where
-      by : (b n : Bool) → before entry.found ≡ b → is_named name entry.found ≡ n
-          → (if is_named name (if b then change entry else entry).found then written (change old) else written (if b then change entry else entry))
+      by : (b n : Bool) → before entry.status ≡ b → is_named name entry.status ≡ n
+          → (if is_named name (if b then change entry else entry).status then written (change old) else written (if b then change entry else entry))
           ≡ written (if b || n then change entry else entry)
       by true true h e = rw (ap (λ x. bytes_eq x name) (same entry h) ∙ e) (ap (λ x. written (change x)) (sym (only e)))
       by true false h e = rw (ap (λ x. bytes_eq x name) (same entry h) ∙ e) refl
@@ -84,9 +84,9 @@ changed-none change (Foreign stanza ∷ slots) = ap (λ later. Foreign stanza �
 changed-none change (Recorded entry ∷ slots) = ap (λ later. Recorded entry ∷ later) (changed-none change slots)
 
 -- the records of names, one name more
-pub among-more : (front : List (List ℕ)) (name : List ℕ) (found : Record) → is_among (front ++ name ∷ []) found ≡ (is_among front found || is_named name found)
-among-more front name found =
-    list_any-append (λ other. is_named other found) front (name ∷ []) ∙ ap (λ b. is_among front found || b) (or-none (is_named name found))
+pub among-more : (front : List (List ℕ)) (name : List ℕ) (one : Record) → is_among (front ++ name ∷ []) one ≡ (is_among front one || is_named name one)
+among-more front name one =
+    list_any-append (λ other. is_named other one) front (name ∷ []) ∙ ap (λ b. is_among front one || b) (or-none (is_named name one))
 
 -- an unpacking
 pub unpacked-stored : (indexed : IndexStanza) (slots : List FileSlot) → AreDistinct (names_of slots) → map as_stored slots ≡ slots
@@ -102,15 +102,15 @@ unpacked-stored indexed slots distinct stored = by (entry_named name slots) refl
     over : FileRecord → List FileSlot
     over old = changed_slots (is_named name) (λ _. written (unpacked_entry indexed old)) slots
 
-    by : (found : Option FileRecord) → entry_named name slots ≡ found
-        → (if has_name name slots then changed_slots (is_named name) (λ _. written (entry_over indexed found)) slots
-        else slots ++ Recorded (written (entry_over indexed found)) ∷ [])
+    by : (one : Option FileRecord) → entry_named name slots ≡ one
+        → (if has_name name slots then changed_slots (is_named name) (λ _. written (entry_over indexed one)) slots
+        else slots ++ Recorded (written (entry_over indexed one)) ∷ [])
         ≡ map as_stored (if has_name name slots then changed_slots (is_named name) (unpacked_entry indexed) slots else slots ++ Recorded (new_entry indexed) ∷ [])
     by None e = rw (none-has_name name slots e)
         ((λ i. sym stored i ++ Recorded (written (new_entry indexed)) ∷ []) ∙ sym (map-append as_stored slots (Recorded (new_entry indexed) ∷ [])))
     by (Some old) e = rw (found-has_name name slots old e)
         (ap (changed_slots (is_named name) (λ _. written (unpacked_entry indexed old))) (sym (ap (map as_stored) (changed-none (unpacked_entry indexed) slots) ∙ stored))
-        ∙ changed-more name (unpacked_entry indexed) old (λ _. false) (is_named name) (λ entry never. absurd (true≢false (sym never))) (λ found. refl) slots (found-only name old slots distinct e))
+        ∙ changed-more name (unpacked_entry indexed) old (λ _. false) (is_named name) (λ entry never. absurd (true≢false (sym never))) (λ one. refl) slots (found-only name old slots distinct e))
 
 -- what a purge leaves is stored
 pub filter-stored : (keeps : FileSlot → Bool) (slots : List FileSlot) → map as_stored slots ≡ slots → map as_stored (filter keeps slots) ≡ filter keeps slots
@@ -162,11 +162,11 @@ unpacked-taken indexed slots name spelled named spells distinct stored =
 has-stored : (name : List ℕ) (slots : List FileSlot) → has_name name (map as_stored slots) ≡ has_name name slots
 has-stored name [] = refl
 has-stored name (Foreign stanza ∷ slots) = has-stored name slots
-has-stored name (Recorded entry ∷ slots) = ap (λ b. is_named name entry.found || b) (has-stored name slots)
+has-stored name (Recorded entry ∷ slots) = ap (λ b. is_named name entry.status || b) (has-stored name slots)
 
 pub new-stored : (slot : FileSlot) (slots : List FileSlot) → IsNew slot slots → IsNew slot (map as_stored slots)
 new-stored (Foreign stanza) slots new = tt
-new-stored (Recorded entry) slots new = has-stored entry.found.name slots ∙ new
+new-stored (Recorded entry) slots new = has-stored entry.status.name slots ∙ new
 
 -- one of those of which all hold
 pub all-middle : {A : Type 0} (P : A → Type 0) (front : List A) (x : A) (rest : List A) → AllByRecursion P (front ++ x ∷ rest) → P x
@@ -174,7 +174,7 @@ all-middle P [] x rest all = all.0
 all-middle P (y ∷ front) x rest all = all-middle P front x rest all.1
 
 -- an action keeps the name
-pub keeps-name : (action : Action) (entry : FileRecord) → (touched_entry (left_of action) entry).found.name ≡ entry.found.name
+pub keeps-name : (action : Action) (entry : FileRecord) → (touched_entry (left_of action) entry).status.name ≡ entry.status.name
 keeps-name Deconfigure entry = refl
 keeps-name Configure entry = refl
 keeps-name Remove entry = refl

@@ -177,17 +177,17 @@ config-parts config_version (field ∷ fields) = elim (cases_Bool (is_kept field
     none config_version fields absent = rw absent
         (ap first_value (none_in_parts (is_called (codes "Config-Version")) is_kept (with_config_version None) (λ field kept. nothing (is_called (codes "Version") field) field kept) fields))
 
-status_alone : (found : Record) (config_version : Option (List ℕ)) (fields : List Field)
-    → value_called (codes "Status") (touched_fields (status_of found) config_version fields) ≡ Some (status_of found).value
-status_alone found config_version fields = ap first_value
-    (filter-append (is_called (codes "Status")) (fields_called (codes "Package") fields) (status_of found ∷ flat_map (with_config_version config_version) (filter is_kept fields))
-    ∙ ap (λ front. front ++ fields_called (codes "Status") (status_of found ∷ flat_map (with_config_version config_version) (filter is_kept fields)))
+status_alone : (entry : Record) (config_version : Option (List ℕ)) (fields : List Field)
+    → value_called (codes "Status") (touched_fields (status_of entry) config_version fields) ≡ Some (status_of entry).value
+status_alone entry config_version fields = ap first_value
+    (filter-append (is_called (codes "Status")) (fields_called (codes "Package") fields) (status_of entry ∷ flat_map (with_config_version config_version) (filter is_kept fields))
+    ∙ ap (λ front. front ++ fields_called (codes "Status") (status_of entry ∷ flat_map (with_config_version config_version) (filter is_kept fields)))
     (none_of_both (is_called (codes "Status")) (is_called (codes "Package")) (λ field called. other_name (codes "Package") (codes "Status") field called refl) fields))
 
-config_alone : (found : Record) (config_version : Option (List ℕ)) (fields : List Field)
-    → value_called (codes "Config-Version") (touched_fields (status_of found) config_version fields) ≡ behind_version (value_called (codes "Version") fields) config_version
-config_alone found config_version fields = ap first_value
-    (filter-append (is_called (codes "Config-Version")) (fields_called (codes "Package") fields) (status_of found ∷ flat_map (with_config_version config_version) (filter is_kept fields))
+config_alone : (entry : Record) (config_version : Option (List ℕ)) (fields : List Field)
+    → value_called (codes "Config-Version") (touched_fields (status_of entry) config_version fields) ≡ behind_version (value_called (codes "Version") fields) config_version
+config_alone entry config_version fields = ap first_value
+    (filter-append (is_called (codes "Config-Version")) (fields_called (codes "Package") fields) (status_of entry ∷ flat_map (with_config_version config_version) (filter is_kept fields))
     ∙ ap (λ front. front ++ fields_called (codes "Config-Version") (flat_map (with_config_version config_version) (filter is_kept fields)))
     (none_of_both (is_called (codes "Config-Version")) (is_called (codes "Package")) (λ field called. other_name (codes "Package") (codes "Config-Version") field called refl) fields))
     ∙ config-parts config_version fields
@@ -215,16 +215,16 @@ passes_provides : Passes (is_called (codes "Provides"))
 passes_provides = passes_called (codes "Provides") refl refl refl refl refl refl
 
 -- the values of a touched stanza
-pub values-touched : (found : Record) (config_version : Option (List ℕ)) (fields : List Field)
-    → values_of (touched_fields (status_of found) config_version fields) ≡ written_values (status_of found).value config_version (values_of fields)
-values-touched found config_version fields = same_values (values_of (touched_fields (status_of found) config_version fields)) (written_values (status_of found).value config_version (values_of fields))
-    (ap first_value (touched-package found config_version fields)) (status_alone found config_version fields) (kept (codes "Architecture") passes_architecture)
-    (kept (codes "Version") passes_version) (config_alone found config_version fields) (kept (codes "Pre-Depends") passes_pre_depends)
+pub values-touched : (entry : Record) (config_version : Option (List ℕ)) (fields : List Field)
+    → values_of (touched_fields (status_of entry) config_version fields) ≡ written_values (status_of entry).value config_version (values_of fields)
+values-touched entry config_version fields = same_values (values_of (touched_fields (status_of entry) config_version fields)) (written_values (status_of entry).value config_version (values_of fields))
+    (ap first_value (touched-package entry config_version fields)) (status_alone entry config_version fields) (kept (codes "Architecture") passes_architecture)
+    (kept (codes "Version") passes_version) (config_alone entry config_version fields) (kept (codes "Pre-Depends") passes_pre_depends)
     (kept (codes "Depends") passes_depends) (kept (codes "Conflicts") passes_conflicts) (kept (codes "Breaks") passes_breaks) (kept (codes "Provides") passes_provides)
-    (ap passes_some (touched_passes marks_essential passes_essential found config_version fields))
+    (ap passes_some (touched_passes marks_essential passes_essential entry config_version fields))
   where
-    kept : (name : List ℕ) → Passes (is_called name) → value_called name (touched_fields (status_of found) config_version fields) ≡ value_called name fields
-    kept name passes = ap first_value (touched_passes (is_called name) passes found config_version fields)
+    kept : (name : List ℕ) → Passes (is_called name) → value_called name (touched_fields (status_of entry) config_version fields) ≡ value_called name fields
+    kept name passes = ap first_value (touched_passes (is_called name) passes entry config_version fields)
 
 -- a name that no field Conffiles has is called in front of them
 in_front : (name : List ℕ) → ((field : Field) → is_called (codes "Conffiles") field ≡ true → is_called name field ≡ false) → (fields old_fields : List Field)
@@ -235,26 +235,26 @@ in_front name other fields old_fields = ap first_value
     ∙ append-nil (fields_called name fields))
 
 -- the values of an unpacked stanza
-pub values-unpacked : (found : Record) (config_version : Option (List ℕ)) (index_fields old_fields : List Field)
-    → values_of (unpacked_fields (status_of found) config_version index_fields old_fields) ≡ written_values (status_of found).value config_version (values_of index_fields)
-values-unpacked found config_version index_fields old_fields = same_values (values_of (unpacked_fields (status_of found) config_version index_fields old_fields)) (written_values (status_of found).value config_version (values_of index_fields))
-    (in_front (codes "Package") (λ field called. other_name (codes "Conffiles") (codes "Package") field called refl) (touched_fields (status_of found) config_version common) old_fields
-    ∙ ap first_value (touched-package found config_version common
+pub values-unpacked : (entry : Record) (config_version : Option (List ℕ)) (index_fields old_fields : List Field)
+    → values_of (unpacked_fields (status_of entry) config_version index_fields old_fields) ≡ written_values (status_of entry).value config_version (values_of index_fields)
+values-unpacked entry config_version index_fields old_fields = same_values (values_of (unpacked_fields (status_of entry) config_version index_fields old_fields)) (written_values (status_of entry).value config_version (values_of index_fields))
+    (in_front (codes "Package") (λ field called. other_name (codes "Conffiles") (codes "Package") field called refl) (touched_fields (status_of entry) config_version common) old_fields
+    ∙ ap first_value (touched-package entry config_version common
     ∙ filter_within (is_called (codes "Package")) is_common (λ field called. ap not (apart (codes "Package") index_only field called refl)) index_fields))
-    (in_front (codes "Status") (λ field called. other_name (codes "Conffiles") (codes "Status") field called refl) (touched_fields (status_of found) config_version common) old_fields
-    ∙ status_alone found config_version common)
+    (in_front (codes "Status") (λ field called. other_name (codes "Conffiles") (codes "Status") field called refl) (touched_fields (status_of entry) config_version common) old_fields
+    ∙ status_alone entry config_version common)
     (kept (codes "Architecture") passes_architecture)
     (kept (codes "Version") passes_version)
-    (in_front (codes "Config-Version") (λ field called. other_name (codes "Conffiles") (codes "Config-Version") field called refl) (touched_fields (status_of found) config_version common) old_fields
-    ∙ config_alone found config_version common
+    (in_front (codes "Config-Version") (λ field called. other_name (codes "Conffiles") (codes "Config-Version") field called refl) (touched_fields (status_of entry) config_version common) old_fields
+    ∙ config_alone entry config_version common
     ∙ ap (λ (version : Option (List ℕ)). behind_version version config_version)
     (ap first_value (filter_within (is_called (codes "Version")) is_common passes_version.common index_fields)))
     (kept (codes "Pre-Depends") passes_pre_depends)
     (kept (codes "Depends") passes_depends) (kept (codes "Conflicts") passes_conflicts) (kept (codes "Breaks") passes_breaks) (kept (codes "Provides") passes_provides)
-    (ap passes_some (unpacked_passes marks_essential passes_essential found config_version index_fields old_fields))
+    (ap passes_some (unpacked_passes marks_essential passes_essential entry config_version index_fields old_fields))
   where
     common : List Field
     common = fields_without index_only index_fields
 
-    kept : (name : List ℕ) → Passes (is_called name) → value_called name (unpacked_fields (status_of found) config_version index_fields old_fields) ≡ value_called name index_fields
-    kept name passes = ap first_value (unpacked_passes (is_called name) passes found config_version index_fields old_fields)
+    kept : (name : List ℕ) → Passes (is_called name) → value_called name (unpacked_fields (status_of entry) config_version index_fields old_fields) ≡ value_called name index_fields
+    kept name passes = ap first_value (unpacked_passes (is_called name) passes entry config_version index_fields old_fields)

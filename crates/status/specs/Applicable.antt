@@ -24,23 +24,23 @@ is_indexed_as name version (Some indexed) = bytes_eq indexed.listed.pkg.name nam
 
 -- unpacked, half-configured or in a trigger state, with flag ok
 abbrev pub is_configurable : Record → Bool
-is_configurable found = is_unconfigured_state found.state && is_sound_flag found.flag
+is_configurable entry = is_unconfigured_state entry.state && is_sound_flag entry.flag
 
 -- present, with flag ok
 abbrev pub is_removable : Record → Bool
-is_removable found = is_present_state found.state && is_sound_flag found.flag
+is_removable entry = is_present_state entry.state && is_sound_flag entry.flag
 
 -- installed
 abbrev pub is_deconfigurable : Record → Bool
-is_deconfigurable found = is_installed_state found.state
+is_deconfigurable entry = is_installed_state entry.state
 
 -- with configuration files alone
 abbrev pub is_purgeable : Record → Bool
-is_purgeable found = is_config_files_state found.state
+is_purgeable entry = is_config_files_state entry.state
 
 -- a record of the name passes the test
 abbrev pub has_record : (Record → Bool) → List ℕ → List Record → Bool
-has_record test name db = list_any (λ found. is_named name found && test found) db
+has_record test name db = list_any (λ entry. is_named name entry && test entry) db
 
 -- the first of the names that has no record which passes the test
 abbrev pub first_unready : (Record → Bool) → List (List ℕ) → List Record → Option (List ℕ)

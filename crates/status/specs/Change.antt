@@ -17,7 +17,7 @@ IsTextOf arch text entry = IsStored arch text (Recorded entry)
 pub record IsTextAfter (action : Action) (store : Store) (name text : List ℕ) : Type 0 where
   pub old : FileRecord
   pub there : entry_named name store.slots ≡ Some old
-  pub starts : starts_from action old.found ≡ true
+  pub starts : starts_from action old.status ≡ true
   pub text_is : IsTextOf store.arch text (written (touched_entry (left_of action) old))
 
 -- the text is that of what is unpacked in the place of the name

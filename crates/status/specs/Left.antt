@@ -21,7 +21,7 @@ slots_after_unpack indexed slots =
 
 -- the slots after the step, where an unpacked package is that of this stanza of an index
 abbrev pub slots_after : Option IndexStanza → Step → List FileSlot → List FileSlot
-slots_after indexed (step.Unpack name version) slots = option_map_or (λ found. slots_after_unpack found slots) indexed slots
+slots_after indexed (step.Unpack name version) slots = option_map_or (λ stanza. slots_after_unpack stanza slots) indexed slots
 slots_after indexed (step.Deconfigure name) slots = changed_slots (is_named name) (touched_entry deconfigured) slots
 slots_after indexed (step.Configure names) slots = changed_slots (is_among names) (touched_entry configured) slots
 slots_after indexed (step.Remove name) slots = changed_slots (is_named name) (touched_entry removed) slots

@@ -18,7 +18,7 @@ abbrev pub numbered : ℕ → List (Option FileSlot) → List (List ℕ × ℕ)
 numbered number [] = []
 numbered number (None ∷ places) = numbered (number + 1) places
 numbered number (Some (Foreign stanza) ∷ places) = numbered (number + 1) places
-numbered number (Some (Recorded entry) ∷ places) = (entry.found.name, number) ∷ numbered (number + 1) places
+numbered number (Some (Recorded entry) ∷ places) = (entry.status.name, number) ∷ numbered (number + 1) places
 
 -- no name is there twice
 abbrev pub AreDistinct : List (List ℕ) → Type 0
@@ -53,8 +53,8 @@ entry_at (Some (Some (Recorded entry))) = Some entry
 pub record IsAt (name : List ℕ) (places : List (Option FileSlot)) (place : ℕ) : Type 0 where
   pub entry : FileRecord
   pub there : slice_get places place ≡ Some (Some (Recorded entry))
-  pub named : entry.found.name ≡ name
-  pub found : entry_named name (slots_at places) ≡ Some entry
+  pub named : entry.status.name ≡ name
+  pub entry_is : entry_named name (slots_at places) ≡ Some entry
 
 -- the place of the entry of the name, or that there is none
 abbrev pub FindsAt : List ℕ → List (Option FileSlot) → Option ℕ → Type 0

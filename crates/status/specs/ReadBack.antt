@@ -13,8 +13,8 @@ use Rattle.status_text.specs.declared.slot.Slot.TheVariants.{Recorded}
 -- every stanza with the fields of the entry reads as its record, behind records of other names
 abbrev pub ReadsBack : List ℕ → FileRecord → Type 0
 ReadsBack arch entry = (stanza : StanzaText) (seen : List (List ℕ))
-    → map field_of stanza.fields ≡ entry.stanza.fields → is_seen seen entry.found.name ≡ false
-    → read_slot arch seen stanza ≡ Ok (Recorded (record { found = entry.found; stanza = read_stanza stanza }))
+    → map field_of stanza.fields ≡ entry.stanza.fields → is_seen seen entry.status.name ≡ false
+    → read_slot arch seen stanza ≡ Ok (Recorded (record { status = entry.status; stanza = read_stanza stanza }))
 
 -- a record that was read reads back
 abbrev pub ReadReadsBack : Type 0
@@ -23,7 +23,7 @@ ReadReadsBack = (arch : List ℕ) (seen : List (List ℕ)) (stanza : StanzaText)
 
 -- what an action leaves of a present record that reads back does so too
 abbrev pub TouchedReadsBack : Type 0
-TouchedReadsBack = (arch : List ℕ) (entry : FileRecord) → IsPresent entry.found → ReadsBack arch entry
+TouchedReadsBack = (arch : List ℕ) (entry : FileRecord) → IsPresent entry.status → ReadsBack arch entry
     → ReadsBack arch (touched_entry deconfigured entry) × ReadsBack arch (touched_entry configured entry)
     × ReadsBack arch (touched_entry removed entry)
 

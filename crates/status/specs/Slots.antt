@@ -9,15 +9,15 @@ use Rattle.status_text.specs.declared.slot.Slot.TheVariants.{Recorded, Foreign}
 
 -- the names of the records of slots
 abbrev pub names_of : List FileSlot → List (List ℕ)
-names_of slots = map (λ entry. entry.found.name) (entries_of slots)
+names_of slots = map (λ entry. entry.status.name) (entries_of slots)
 
 -- the entry of the name, if there is one
 abbrev pub entry_named : List ℕ → List FileSlot → Option FileRecord
-entry_named name slots = find (λ entry. is_named name entry.found) (entries_of slots)
+entry_named name slots = find (λ entry. is_named name entry.status) (entries_of slots)
 
 -- the slot has a record of this name
 abbrev pub is_slot_named : List ℕ → FileSlot → Bool
-is_slot_named name (Recorded entry) = is_named name entry.found
+is_slot_named name (Recorded entry) = is_named name entry.status
 is_slot_named name (Foreign stanza) = false
 
 -- a slot has a record of this name
@@ -26,7 +26,7 @@ has_name name slots = list_any (is_slot_named name) slots
 
 -- the slot, with its entry changed if the record passes the test
 abbrev pub changed_slot : (Record → Bool) → (FileRecord → FileRecord) → FileSlot → FileSlot
-changed_slot test change (Recorded entry) = Recorded (if test entry.found then change entry else entry)
+changed_slot test change (Recorded entry) = Recorded (if test entry.status then change entry else entry)
 changed_slot test change (Foreign stanza) = Foreign stanza
 
 -- the slots with each entry whose record passes the test changed
@@ -35,5 +35,5 @@ changed_slots test change slots = map (changed_slot test change) slots
 
 -- no slot has a record of the name of this one
 abbrev pub IsNew : FileSlot → List FileSlot → Type 0
-IsNew (Recorded entry) slots = has_name entry.found.name slots ≡ false
+IsNew (Recorded entry) slots = has_name entry.status.name slots ≡ false
 IsNew (Foreign stanza) slots = ⊤

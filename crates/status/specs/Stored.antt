@@ -20,7 +20,7 @@ slot_text slot = stanza_text (stanza_of slot)
 
 -- the entry once its stanza was written and read
 abbrev pub written : FileRecord → FileRecord
-written entry = record { found = entry.found; stanza = as_written entry.stanza }
+written entry = record { status = entry.status; stanza = as_written entry.stanza }
 
 -- the stanza once its text was written and read by itself
 abbrev pub by_itself : StanzaText → StanzaText

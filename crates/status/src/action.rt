@@ -30,7 +30,7 @@ pub enum Action {
 
 /// Whether the action starts from the record.
 pub fn starts_from(action: Action, old: &StatusRecord<'_>) -> bool
-    ensures { result ≡ Spec.starts_from action old.now.found }
+    ensures { result ≡ Spec.starts_from action old.now.status }
 {
     match action {
         Action::Deconfigure => old.is_installed(),
@@ -41,8 +41,8 @@ pub fn starts_from(action: Action, old: &StatusRecord<'_>) -> bool
 
 // The version of a present record.
 fn present_version<'a>(old: &StatusRecord<'a>) -> Version<'a>
-    requires { IsPresent old.now.found }
-    ensures { result ≡ old.now.found.version }
+    requires { IsPresent old.now.status }
+    ensures { result ≡ old.now.status.version }
 {
     // (what a present package is read from has a version)
     let _origin = old.origin();
@@ -54,8 +54,8 @@ fn present_version<'a>(old: &StatusRecord<'a>) -> Version<'a>
 
 /// The version that was configured last: of an installed package, and of one in a trigger state, its version.
 pub fn last_configured<'a>(old: &StatusRecord<'a>) -> Option<Version<'a>>
-    requires { IsPresent old.now.found }
-    ensures { result ≡ last_configured old.now.found }
+    requires { IsPresent old.now.status }
+    ensures { result ≡ last_configured old.now.status }
 {
     if old.state().has_configured_version() {
         return Some(present_version(old));
@@ -80,7 +80,8 @@ fn written_config_version<'a>(state: State, version: Option<Version<'a>>) -> Opt
 
 // Which fields an action leaves out of the stanza of a package in this state.
 fn left_out(state: State) -> LeftOut
-    ensures { result ≡ (if is_trigger_state state then left_outs.OfTriggers else left_outs.Nothing) }
+    ensures { result
+        ≡ (if is_trigger_state state then left_outs.OfTriggers else left_outs.Nothing) }
 {
     if state.is_trigger_state() {
         LeftOut::OfTriggers
@@ -96,8 +97,11 @@ fn touched_text(
     mark: Mark,
     config_version: Option<Version<'_>>,
 ) -> Result<Vec<u8>, AllocError>
-    ensures { IfOk result (λ text. text.items ≡ fields_text (touched_fields (status_field mark.want mark.flag mark.state)
-        (written_config_version mark.state config_version.entry) (lasting_fields old.now.found.state old.now.stanza.fields))) }
+    ensures { IfOk result
+        (λ text. text.items
+        ≡ fields_text (touched_fields (status_field mark.want mark.flag mark.state)
+        (written_config_version mark.state config_version.entry)
+        (lasting_fields old.now.status.state old.now.stanza.fields))) }
 {
     let mut text = Vec::new(alloc);
     let written = written_config_version(mark.state, config_version);
@@ -113,9 +117,10 @@ fn touched_text(
 
 // The stanza of the record in this state, with its version as the one configured last.
 fn settled_text(alloc: Global, old: &StatusRecord<'_>, state: State) -> Result<Vec<u8>, AllocError>
-    requires { IsPresent old.now.found }
+    requires { IsPresent old.now.status }
     ensures { IfOk result (λ text. text.items ≡ stanza_text
-        (touched_entry (λ was. record was { state = state; config_version = Some was.version }) old.now).stanza) }
+        (touched_entry
+        (λ was. record was { state = state; config_version = Some was.version }) old.now).stanza) }
 {
     let mark = Mark {
         want: old.want(),
@@ -127,8 +132,9 @@ fn settled_text(alloc: Global, old: &StatusRecord<'_>, state: State) -> Result<V
 
 // The stanza of the record once its package is removed.
 fn removed_text(alloc: Global, old: &StatusRecord<'_>) -> Result<Vec<u8>, AllocError>
-    requires { IsPresent old.now.found }
-    ensures { IfOk result (λ text. text.items ≡ stanza_text (touched_entry removed old.now).stanza) }
+    requires { IsPresent old.now.status }
+    ensures { IfOk result
+        (λ text. text.items ≡ stanza_text (touched_entry removed old.now).stanza) }
 {
     let mark = Mark {
         want: Want::Deinstall,
@@ -144,8 +150,9 @@ pub fn text_after(
     action: Action,
     old: &StatusRecord<'_>,
 ) -> Result<Vec<u8>, AllocError>
-    requires { Spec.starts_from action old.now.found ≡ true }
-    ensures { IfOk result (λ text. text.items ≡ stanza_text (touched_entry (left_of action) old.now).stanza) }
+    requires { Spec.starts_from action old.now.status ≡ true }
+    ensures { IfOk result
+        (λ text. text.items ≡ stanza_text (touched_entry (left_of action) old.now).stanza) }
 {
     match action {
         Action::Deconfigure => settled_text(alloc, old, State::HalfConfigured),

@@ -32,7 +32,8 @@ fn unpack<'s>(
     version: &VersionText,
     given: Option<&[u8]>,
 ) -> Result<(), ApplyError<'s>>
-    ensures { IsTaken result (handed_in table.old.arch (option_copied given.entry)) (step.Unpack name.now version.now) table.old table.new }
+    ensures { IsTaken result (handed_in table.old.arch (option_copied given.entry))
+        (step.Unpack name.now version.now) table.old table.new }
 {
     match text_unpacked(alloc, table, name, version, given)? {
         Some(text) => {
@@ -68,7 +69,7 @@ fn is_purgeable(table: &Table, name: &[u8]) -> bool
 {
     table.is_sound();
     match table.find(name) {
-        Some(found) => found.state().is_removed(),
+        Some(entry) => entry.state().is_removed(),
         None => false,
     }
 }
@@ -93,7 +94,8 @@ pub fn take<'s>(
     taken: &'s Step,
     given: Option<&[u8]>,
 ) -> Result<(), ApplyError<'s>>
-    ensures { IsTaken result (handed_in table.old.arch (option_copied given.entry)) taken.now table.old table.new }
+    ensures { IsTaken result
+        (handed_in table.old.arch (option_copied given.entry)) taken.now table.old table.new }
 {
     match taken {
         Step::Unpack(name, version) => unpack(alloc, table, name, version, given),

@@ -58,12 +58,13 @@ fn push_slot<'a>(
 ) -> Result<(), AllocError>
     requires faithful { IsFaithfulSlot table.old.arch slot.now }
     requires new { IsNew slot.now table.old.slots }
-    ensures { OnOk result (table.new ≡ record table.old { slots = table.old.slots ++ as_stored slot.now ∷ [] }) }
+    ensures { OnOk result
+        (table.new ≡ record table.old { slots = table.old.slots ++ as_stored slot.now ∷ [] }) }
 {
     match slot {
-        Slot::Recorded(found) => {
-            let name = Vec::from_slice(alloc, found.name())?;
-            table.push_recorded(name, text_of(alloc, found.stanza())?)
+        Slot::Recorded(entry) => {
+            let name = Vec::from_slice(alloc, entry.name())?;
+            table.push_recorded(name, text_of(alloc, entry.stanza())?)
         }
         Slot::Foreign(stanza) => table.push_foreign(text_of(alloc, stanza)?),
     }
@@ -80,7 +81,8 @@ impl Database {
         ensures arch { IfOk result (λ db. db.arch ≡ arch.now) }
         ensures ok { IfOk result (λ db. read_stored arch.now text.now ≡ Ok db.slots) }
         ensures err { IfErr result (λ e. IsStatusFault e (read_stored arch.now text.now)) }
-        ensures too_long { TEXT_BYTES < length text.now → result ≡ Err (error.Refused fault.TooLarge) }
+        ensures too_long { TEXT_BYTES < length text.now → result
+            ≡ Err (error.Refused fault.TooLarge) }
     {
         let file = StatusFile::read(alloc, text, arch)?;
         Ok(Database::of(alloc, &file)?)
@@ -88,7 +90,8 @@ impl Database {
 
     /// The database that this status file is. Memory alone can fail. Linear in the text of the stanzas.
     pub fn of(alloc: Global, file: &StatusFile<'_>) -> Result<Database, AllocError>
-        ensures stored { IfOk result (λ db. db ≡ record file.now { slots = map as_stored file.now.slots }) }
+        ensures stored { IfOk result
+            (λ db. db ≡ record file.now { slots = map as_stored file.now.slots }) }
         ensures text { IfOk result (λ db. slots_text db.slots ≡ slots_text file.now.slots) }
     {
         let arch = Vec::from_slice(alloc, file.arch())?;
@@ -134,7 +137,8 @@ impl Database {
     /// fail. Linear in it.
     pub fn text(&self, alloc: Global) -> Result<Vec<u8>, AllocError>
         ensures text { IfOk result (λ text. text.items ≡ slots_text self.now.slots) }
-        ensures reads_back { IfOk result (λ text. ReadsAsIfShort self.now.arch text.items self.now.slots) }
+        ensures reads_back { IfOk result
+            (λ text. ReadsAsIfShort self.now.arch text.items self.now.slots) }
     {
         self.table.is_sound();
         let text = self.table.text(alloc)?;
@@ -160,9 +164,17 @@ impl Database {
         taken: &'s Step,
         given: Option<&[u8]>,
     ) -> Result<(), ApplyError<'s>>
-        ensures taken { OnOk result (refused_name (handed_in self.old.arch (option_copied given.entry)) taken.now (slot_records self.old.slots) ≡ None) }
-        ensures left { OnOk result (self.new ≡ record self.old { slots = stored_after (handed_in self.old.arch (option_copied given.entry)) taken.now self.old.slots }) }
-        ensures err { IfErr result (λ e. IsApplyFault e (handed_in self.old.arch (option_copied given.entry)) taken.now self.old.slots) }
+        ensures taken { OnOk result
+            (refused_name (handed_in self.old.arch (option_copied given.entry)) taken.now
+            (slot_records self.old.slots) ≡ None) }
+        ensures left { OnOk result
+            (self.new ≡ record self.old {
+              slots = stored_after
+                  (handed_in self.old.arch (option_copied given.entry)) taken.now self.old.slots;
+            }) }
+        ensures err { IfErr result
+            (λ e. IsApplyFault e
+            (handed_in self.old.arch (option_copied given.entry)) taken.now self.old.slots) }
         ensures unchanged { OnErr result (self.new ≡ self.old) }
     {
         take(alloc, &mut self.table, taken, given)

@@ -63,7 +63,7 @@ fn record_in<'t>(arch: &'t [u8], text: &'t [u8]) -> Option<StatusRecord<'t>>
     ensures { result ≡ entry_at (Some (alone arch.now text.now)) }
 {
     match read_alone(text, arch) {
-        Some(Slot::Recorded(found)) => Some(found),
+        Some(Slot::Recorded(entry)) => Some(entry),
         _ => None,
     }
 }
@@ -84,7 +84,11 @@ fn record_at<'t>(
     places: &'t [Option<ArcSlice<u8>>],
     place: usize,
 ) -> Option<StatusRecord<'t>>
-    ensures { result ≡ entry_at (slice_get (slots_read arch.now (map (λ place. option_map (λ text. arc_slice_items text) place) places.now)) place) }
+    ensures { result
+        ≡ entry_at (slice_get
+        (slots_read arch.now
+        (map (λ place.
+        option_map (λ text. arc_slice_items text) place) places.now)) place) }
 {
     match text_at(places, place) {
         Some(text) => record_in(arch, text.as_slice()),
@@ -137,7 +141,8 @@ impl Table {
 
     /// Adds the text of a stanza without a record behind the others.
     pub fn push_foreign(&mut self, text: ArcSlice<u8>) -> Result<(), AllocError>
-        requires { (stanza : _) × IsStored self.old.arch (arc_slice_items text) (slot.Foreign stanza) }
+        requires { (stanza : _)
+            × IsStored self.old.arch (arc_slice_items text) (slot.Foreign stanza) }
         ensures ok { (kept : FileSlot) → alone self.old.arch (arc_slice_items text) ≡ Some kept
             → OnOk result (self.new ≡ record self.old { slots = self.old.slots ++ kept ∷ [] }) }
     {
@@ -147,10 +152,16 @@ impl Table {
 
     /// Adds the text of a record of a new name behind the others. Where memory is refused all stays as it was.
     pub fn push_recorded(&mut self, name: Vec<u8>, text: ArcSlice<u8>) -> Result<(), AllocError>
-        requires is { (entry : FileRecord) × IsTextOf self.old.arch (arc_slice_items text) entry × (entry.found.name ≡ name.items) }
+        requires is { (entry : FileRecord) × IsTextOf self.old.arch (arc_slice_items text) entry
+            × (entry.status.name ≡ name.items) }
         requires new { has_name name.items self.old.slots ≡ false }
-        ensures ok { (entry : FileRecord) → alone self.old.arch (arc_slice_items text) ≡ Some (slot.Recorded entry)
-            → OnOk result (self.new ≡ record self.old { slots = self.old.slots ++ slot.Recorded entry ∷ [] }) }
+        ensures ok { (entry : FileRecord) → alone self.old.arch (arc_slice_items text)
+            ≡ Some (slot.Recorded entry)
+            → OnOk result
+            (self.new ≡ record self.old {
+              slots = self.old.slots ++ slot.Recorded entry
+                  ∷ [];
+            }) }
         ensures err { OnErr result (self.new ≡ self.old) }
     {
         self.places.reserve(1)?;
@@ -163,9 +174,14 @@ impl Table {
 
     /// Writes the text of a record over that of its name, if there is one. No memory.
     pub fn write(&mut self, name: &[u8], text: ArcSlice<u8>)
-        requires { (entry : FileRecord) × IsTextOf self.old.arch (arc_slice_items text) entry × (entry.found.name ≡ name.now) }
-        ensures { (entry : FileRecord) → alone self.old.arch (arc_slice_items text) ≡ Some (slot.Recorded entry)
-            → self.new ≡ record self.old { slots = changed_slots (is_named name.now) (λ _. entry) self.old.slots } }
+        requires { (entry : FileRecord) × IsTextOf self.old.arch (arc_slice_items text) entry
+            × (entry.status.name ≡ name.now) }
+        ensures { (entry : FileRecord) → alone self.old.arch (arc_slice_items text)
+            ≡ Some (slot.Recorded entry)
+            → self.new ≡ record self.old {
+              slots = changed_slots (is_named name.now)
+                  (λ _. entry) self.old.slots;
+            } }
     {
         let Some(place) = place_of(&self.numbers, name) else {
             return;
@@ -176,11 +192,14 @@ impl Table {
     /// Writes the text of a record over that of its name, or adds it behind the others where there is none. Where memory is
     /// refused all stays as it was.
     pub fn put(&mut self, alloc: Global, name: &[u8], text: ArcSlice<u8>) -> Result<(), AllocError>
-        requires { (entry : FileRecord) × IsTextOf self.old.arch (arc_slice_items text) entry × (entry.found.name ≡ name.now) }
-        ensures ok { (entry : FileRecord) → alone self.old.arch (arc_slice_items text) ≡ Some (slot.Recorded entry)
+        requires { (entry : FileRecord) × IsTextOf self.old.arch (arc_slice_items text) entry
+            × (entry.status.name ≡ name.now) }
+        ensures ok { (entry : FileRecord) → alone self.old.arch (arc_slice_items text)
+            ≡ Some (slot.Recorded entry)
             → OnOk result (self.new ≡ record self.old {
               slots = if has_name name.now self.old.slots
-                  then changed_slots (is_named name.now) (λ _. entry) self.old.slots else self.old.slots ++ slot.Recorded entry ∷ [];
+                  then changed_slots (is_named name.now)
+                  (λ _. entry) self.old.slots else self.old.slots ++ slot.Recorded entry ∷ [];
             }) }
         ensures err { OnErr result (self.new ≡ self.old) }
     {
@@ -198,7 +217,11 @@ impl Table {
 
     /// Deletes the stanza of the record of this name, if there is one. No memory. The numbers of the names behind it move.
     pub fn delete(&mut self, name: &[u8])
-        ensures { self.new ≡ record self.old { slots = filter (λ slot. not (is_slot_named name.now slot)) self.old.slots } }
+        ensures { self.new
+            ≡ record self.old {
+              slots = filter
+                  (λ slot. not (is_slot_named name.now slot)) self.old.slots;
+            } }
     {
         let Some(place) = place_of(&self.numbers, name) else {
             return;
@@ -239,7 +262,9 @@ impl Table {
 
 // The text in a place once more, which isn't copied.
 fn copy_of_place(place: &Option<ArcSlice<u8>>) -> Result<Option<ArcSlice<u8>>, AllocError>
-    ensures { IfOk result (λ copy. option_map (λ text. arc_slice_items text) copy ≡ option_map (λ text. arc_slice_items text) place.now) }
+    ensures { IfOk result
+        (λ copy. option_map (λ text. arc_slice_items text) copy
+        ≡ option_map (λ text. arc_slice_items text) place.now) }
 {
     match place {
         Some(text) => Ok(Some(text.clone()?)),
@@ -252,7 +277,8 @@ fn copy_of_places(
     alloc: Global,
     places: &[Option<ArcSlice<u8>>],
 ) -> Result<Vec<Option<ArcSlice<u8>>>, AllocError>
-    ensures { IfOk result (λ copy. map (λ place. option_map (λ text. arc_slice_items text) place) copy.items
+    ensures { IfOk result
+        (λ copy. map (λ place. option_map (λ text. arc_slice_items text) place) copy.items
         ≡ map (λ place. option_map (λ text. arc_slice_items text) place) places.now) }
 {
     let mut copy = Vec::with_capacity(alloc, places.len())?;
@@ -270,7 +296,9 @@ fn copy_of_numbers(
 ) -> Result<IndexMap<Vec<u8>, usize>, AllocError>
     requires distinct { AreDistinct (map (λ name. name.items) names.now) }
     requires each { length numbers.now ≡ length names.now }
-    ensures { IfOk result (λ copy. map {B = List ℕ × ℕ} (λ pair. (pair.0.items, pair.1)) copy.entries ≡ zip (map (λ name. name.items) names.now) numbers.now) }
+    ensures { IfOk result
+        (λ copy. map {B = List ℕ × ℕ} (λ pair. (pair.0.items, pair.1)) copy.entries
+        ≡ zip (map (λ name. name.items) names.now) numbers.now) }
 {
     let mut copy = IndexMap::new(alloc);
     for (place, name) in names.iter().enumerate() {
@@ -282,7 +310,9 @@ fn copy_of_numbers(
 
 // Writes the text in the place, if there is one, and an empty line onto the end of a text.
 fn write_place(out: &mut Vec<u8>, place: &Option<ArcSlice<u8>>) -> Result<(), AllocError>
-    ensures { OnOk result (out.new.items ≡ out.old.items ++ place_text (option_map (λ text. arc_slice_items text) place.now)) }
+    ensures { OnOk result
+        (out.new.items ≡ out.old.items
+        ++ place_text (option_map (λ text. arc_slice_items text) place.now)) }
 {
     match place {
         Some(text) => {
@@ -296,7 +326,10 @@ fn write_place(out: &mut Vec<u8>, place: &Option<ArcSlice<u8>>) -> Result<(), Al
 
 // The texts in these places, each followed by an empty line.
 fn text_of(alloc: Global, places: &[Option<ArcSlice<u8>>]) -> Result<Vec<u8>, AllocError>
-    ensures { IfOk result (λ text. text.items ≡ places_text (map (λ place. option_map (λ text. arc_slice_items text) place) places.now)) }
+    ensures { IfOk result
+        (λ text. text.items
+        ≡ places_text
+        (map (λ place. option_map (λ text. arc_slice_items text) place) places.now)) }
 {
     let mut out = Vec::new(alloc);
     for place in places {
@@ -312,11 +345,15 @@ fn push_record<'t>(
     place: &'t Option<ArcSlice<u8>>,
 ) -> Result<(), AllocError>
     ensures { OnOk result (records.new.items
-        ≡ records.old.items ++ entries_of (option_to_list (option_and_then (alone arch.now) (option_map (λ text. arc_slice_items text) place.now)))) }
+        ≡ records.old.items
+        ++ entries_of
+        (option_to_list
+        (option_and_then (alone arch.now)
+        (option_map (λ text. arc_slice_items text) place.now)))) }
 {
     if let Some(text) = place {
-        if let Some(found) = record_in(arch, text.as_slice()) {
-            records.push(found)?;
+        if let Some(entry) = record_in(arch, text.as_slice()) {
+            records.push(entry)?;
         }
     }
     Ok(())
@@ -329,7 +366,9 @@ fn records_in<'t>(
     places: &'t [Option<ArcSlice<u8>>],
 ) -> Result<Vec<StatusRecord<'t>>, AllocError>
     ensures { IfOk result (λ records. records.items
-        ≡ entries_of (slots_at (slots_read arch.now (map (λ place. option_map (λ text. arc_slice_items text) place) places.now)))) }
+        ≡ entries_of (slots_at
+        (slots_read arch.now
+        (map (λ place. option_map (λ text. arc_slice_items text) place) places.now)))) }
 {
     let mut records = Vec::new(alloc);
     for place in places {

@@ -29,18 +29,20 @@ struct Rewritten<'s> {
 }
 
 fn is_ready(table: &Table, action: Action, name: &[u8]) -> bool
-    ensures { result ≡ has_record (Spec.starts_from action) name.now (slot_records table.now.slots) }
+    ensures { result
+        ≡ has_record (Spec.starts_from action) name.now (slot_records table.now.slots) }
 {
     table.is_sound();
     match table.find(name) {
-        Some(found) => starts_from(action, &found),
+        Some(entry) => starts_from(action, &entry),
         None => false,
     }
 }
 
 // The first of the names that has no record from which the action starts.
 fn first_unready<'s>(table: &Table, action: Action, names: &'s [Name]) -> Option<&'s Name>
-    ensures { option_copied result ≡ first_unready (Spec.starts_from action) names.now (slot_records table.now.slots) }
+    ensures { option_copied result
+        ≡ first_unready (Spec.starts_from action) names.now (slot_records table.now.slots) }
 {
     for name in names {
         if !is_ready(table, action, name.as_bytes()) {
@@ -62,7 +64,7 @@ fn text_of_name(
 {
     table.is_sound();
     match table.find(name) {
-        Some(found) => ArcSlice::from_vec(text_after(alloc, action, &found)?),
+        Some(entry) => ArcSlice::from_vec(text_after(alloc, action, &entry)?),
         None => unreachable!(),
     }
 }
@@ -74,9 +76,13 @@ fn texts_of_names<'s>(
     action: Action,
     names: &'s [Name],
 ) -> Result<Vec<Rewritten<'s>>, AllocError>
-    requires { first_unready (Spec.starts_from action) names.now (slot_records table.now.slots) ≡ None }
+    requires { first_unready (Spec.starts_from action) names.now (slot_records table.now.slots)
+        ≡ None }
     ensures names { IfOk result (λ left. map (λ one. one.name.now) left.items ≡ names.now) }
-    ensures texts { IfOk result (λ left. AllByRecursion (λ one. IsTextAfter action table.now one.name.now (arc_slice_items one.text)) left.items) }
+    ensures texts { IfOk result
+        (λ left. AllByRecursion
+        (λ one. IsTextAfter action table.now one.name.now
+        (arc_slice_items one.text)) left.items) }
 {
     let mut left = Vec::new(alloc);
     for name in names {
@@ -88,10 +94,12 @@ fn texts_of_names<'s>(
 
 // Writes what the action leaves over the records of the names.
 fn write_all(table: &mut Table, action: Action, left: Vec<Rewritten<'_>>)
-    requires { AllByRecursion (λ one. IsTextAfter action table.old one.name.now (arc_slice_items one.text)) left.items }
+    requires { AllByRecursion
+        (λ one. IsTextAfter action table.old one.name.now (arc_slice_items one.text)) left.items }
     ensures { table.new ≡ record table.old {
       slots = map as_stored
-          (changed_slots (is_among (map (λ one. one.name.now) left.entry.items)) (touched_entry (left_of action)) table.old.slots);
+          (changed_slots (is_among (map (λ one. one.name.now) left.entry.items))
+          (touched_entry (left_of action)) table.old.slots);
     } }
 {
     table.is_sound();
@@ -108,9 +116,17 @@ pub fn touch<'s>(
     action: Action,
     names: &'s [Name],
 ) -> Result<(), ApplyError<'s>>
-    ensures taken { OnOk result (first_unready (Spec.starts_from action) names.now (slot_records table.old.slots) ≡ None) }
-    ensures left { OnOk result (table.new ≡ record table.old { slots = map as_stored (changed_slots (is_among names.now) (touched_entry (left_of action)) table.old.slots) }) }
-    ensures fault { IfErr result (λ e. IsTouchFault e (first_unready (Spec.starts_from action) names.now (slot_records table.old.slots))) }
+    ensures taken { OnOk result
+        (first_unready (Spec.starts_from action) names.now (slot_records table.old.slots) ≡ None) }
+    ensures left { OnOk result
+        (table.new ≡ record table.old {
+          slots = map as_stored
+              (changed_slots (is_among names.now)
+              (touched_entry (left_of action)) table.old.slots);
+        }) }
+    ensures fault { IfErr result
+        (λ e. IsTouchFault e
+        (first_unready (Spec.starts_from action) names.now (slot_records table.old.slots))) }
     ensures unchanged { OnErr result (table.new ≡ table.old) }
 {
     if let Some(name) = first_unready(table, action, names) {

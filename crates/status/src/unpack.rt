@@ -38,9 +38,11 @@ fn indexed_as<'a>(
     given: Option<&'a [u8]>,
 ) -> Option<IndexStanza<'a>>
     ensures { MatchOption result
-        (is_indexed_as name.now version.now (handed_in arch.now (option_copied given.entry)) ≡ false)
+        (is_indexed_as name.now version.now (handed_in arch.now (option_copied given.entry))
+        ≡ false)
         (λ indexed. (handed_in arch.now (option_copied given.entry) ≡ Some indexed)
-        × (is_indexed_as name.now version.now (handed_in arch.now (option_copied given.entry)) ≡ true)) }
+        × (is_indexed_as name.now version.now (handed_in arch.now (option_copied given.entry))
+        ≡ true)) }
 {
     let indexed = match given {
         Some(text) => read_alone(text, arch)?,
@@ -55,11 +57,11 @@ fn indexed_as<'a>(
 
 // The config version of what is unpacked over the record, if there is one.
 fn kept_config_version<'a>(old: &Option<StatusRecord<'a>>) -> Option<Version<'a>>
-    ensures { result ≡ option_map_or (λ entry. kept_config_version entry.found) old.now None }
+    ensures { result ≡ option_map_or (λ entry. kept_config_version entry.status) old.now None }
 {
     match old {
-        Some(found) if found.state().is_unconfigured() || found.state().is_installed() => {
-            last_configured(found)
+        Some(entry) if entry.state().is_unconfigured() || entry.state().is_installed() => {
+            last_configured(entry)
         }
         _ => None,
     }
@@ -71,7 +73,8 @@ fn unpacked_text(
     indexed: &IndexStanza<'_>,
     old: &Option<StatusRecord<'_>>,
 ) -> Result<Vec<u8>, AllocError>
-    ensures { IfOk result (λ text. text.items ≡ stanza_text (entry_over indexed.now old.now).stanza) }
+    ensures { IfOk result
+        (λ text. text.items ≡ stanza_text (entry_over indexed.now old.now).stanza) }
 {
     let mut text = Vec::new(alloc);
     let mark = Mark {
@@ -92,11 +95,16 @@ pub fn text_unpacked(
     version: &VersionText,
     given: Option<&[u8]>,
 ) -> Result<Option<ArcSlice<u8>>, AllocError>
-    ensures found { IfOk result (λ found. MatchOption found
-        (is_indexed_as name.now version.now (handed_in table.now.arch (option_copied given.entry)) ≡ false)
-        (λ text. (is_indexed_as name.now version.now (handed_in table.now.arch (option_copied given.entry)) ≡ true)
-        × IfSome (handed_in table.now.arch (option_copied given.entry)) (λ indexed. IsTextUnpacked indexed table.now name.now (arc_slice_items text)))) }
-    ensures err { OnErr result (is_indexed_as name.now version.now (handed_in table.now.arch (option_copied given.entry)) ≡ true) }
+    ensures text { IfOk result (λ text. MatchOption text
+        (is_indexed_as name.now version.now (handed_in table.now.arch (option_copied given.entry))
+        ≡ false)
+        (λ text. (is_indexed_as name.now version.now
+        (handed_in table.now.arch (option_copied given.entry)) ≡ true)
+        × IfSome (handed_in table.now.arch (option_copied given.entry))
+        (λ indexed. IsTextUnpacked indexed table.now name.now (arc_slice_items text)))) }
+    ensures err { OnErr result
+        (is_indexed_as name.now version.now (handed_in table.now.arch (option_copied given.entry))
+        ≡ true) }
 {
     match indexed_as(table.arch(), name, version, given) {
         Some(indexed) => {

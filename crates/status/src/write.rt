@@ -15,7 +15,9 @@ use std::alloc::AllocError;
 
 // The fields of this name.
 fn push_called(out: &mut Vec<u8>, name: &[u8], stanza: &Stanza<'_>) -> Result<(), AllocError>
-    ensures { OnOk result (out.new.items ≡ out.old.items ++ fields_text (fields_called name.now (fields_of stanza.now))) }
+    ensures { OnOk result
+        (out.new.items ≡ out.old.items
+        ++ fields_text (fields_called name.now (fields_of stanza.now))) }
 {
     for field in stanza.fields() {
         if is_called(name, &field) {
@@ -27,7 +29,9 @@ fn push_called(out: &mut Vec<u8>, name: &[u8], stanza: &Stanza<'_>) -> Result<()
 
 // The field Status that says this.
 fn push_status(out: &mut Vec<u8>, mark: Mark) -> Result<(), AllocError>
-    ensures { OnOk result (out.new.items ≡ out.old.items ++ field_text (status_field mark.want mark.flag mark.state)) }
+    ensures { OnOk result
+        (out.new.items ≡ out.old.items
+        ++ field_text (status_field mark.want mark.flag mark.state)) }
 {
     out.extend_from_slice(b"Status: ")?;
     out.extend_from_slice(want_word(mark.want))?;
@@ -44,7 +48,9 @@ fn push_config(
     is_version: bool,
     config_version: &Option<Version<'_>>,
 ) -> Result<(), AllocError>
-    ensures { OnOk result (out.new.items ≡ out.old.items ++ fields_text (filter (λ _. is_version) (config_fields config_version.now))) }
+    ensures { OnOk result
+        (out.new.items ≡ out.old.items
+        ++ fields_text (filter (λ _. is_version) (config_fields config_version.now))) }
 {
     match config_version {
         None => Ok(()),
@@ -64,7 +70,9 @@ fn push_with(
     field: &Field<'_>,
     config_version: &Option<Version<'_>>,
 ) -> Result<(), AllocError>
-    ensures { OnOk result (out.new.items ≡ out.old.items ++ fields_text (with_config_version config_version.now (field_of field.now))) }
+    ensures { OnOk result
+        (out.new.items ≡ out.old.items
+        ++ fields_text (with_config_version config_version.now (field_of field.now))) }
 {
     write_field(out, field.name(), field.value())?;
     push_config(out, is_called(b"Version", field), config_version)
@@ -77,7 +85,9 @@ fn push_rest(
     left_out: LeftOut,
     config_version: &Option<Version<'_>>,
 ) -> Result<(), AllocError>
-    ensures { OnOk result (out.new.items ≡ out.old.items ++ fields_text (rest_of left_out config_version.now (fields_of stanza.now))) }
+    ensures { OnOk result
+        (out.new.items ≡ out.old.items
+        ++ fields_text (rest_of left_out config_version.now (fields_of stanza.now))) }
 {
     for field in stanza.fields() {
         if is_written_on(left_out, &field) {
@@ -96,7 +106,10 @@ pub fn push_fields(
     config_version: &Option<Version<'_>>,
 ) -> Result<(), AllocError>
     ensures { OnOk result (out.new.items ≡ out.old.items
-        ++ fields_text (written_fields left_out (status_field mark.want mark.flag mark.state) config_version.now (fields_of stanza.now))) }
+        ++ fields_text
+        (written_fields left_out
+        (status_field mark.want mark.flag mark.state) config_version.now
+        (fields_of stanza.now))) }
 {
     push_called(out, b"Package", stanza)?;
     push_status(out, mark)?;
@@ -105,10 +118,12 @@ pub fn push_fields(
 
 // The fields Conffiles of the stanza of a record, if there is one.
 fn push_conffiles(out: &mut Vec<u8>, old: &Option<StatusRecord<'_>>) -> Result<(), AllocError>
-    ensures { OnOk result (out.new.items ≡ out.old.items ++ fields_text (fields_called (codes "Conffiles") (fields_in old.now))) }
+    ensures { OnOk result
+        (out.new.items ≡ out.old.items
+        ++ fields_text (fields_called (codes "Conffiles") (fields_in old.now))) }
 {
     match old {
-        Some(found) => push_called(out, b"Conffiles", found.stanza()),
+        Some(entry) => push_called(out, b"Conffiles", entry.stanza()),
         None => Ok(()),
     }
 }
@@ -122,7 +137,9 @@ pub fn push_unpacked(
     config_version: &Option<Version<'_>>,
 ) -> Result<(), AllocError>
     ensures { OnOk result (out.new.items ≡ out.old.items
-        ++ fields_text (unpacked_fields (status_field mark.want mark.flag mark.state) config_version.now (fields_of stanza.now) (fields_in old.now))) }
+        ++ fields_text
+        (unpacked_fields (status_field mark.want mark.flag mark.state) config_version.now
+        (fields_of stanza.now) (fields_in old.now))) }
 {
     push_fields(out, stanza, LeftOut::OfIndex, mark, config_version)?;
     push_conffiles(out, old)

@@ -21,7 +21,7 @@ use Rattle.status_text.specs.declared.slot.Slot.TheVariants.{Recorded, Foreign}
 
 -- the record's name isn't among these
 abbrev pub IsNew : List (List ℕ) → Record → Type 0
-IsNew seen found = is_seen seen found.name ≡ false
+IsNew seen entry = is_seen seen entry.name ≡ false
 
 -- the names of these are distinct, and none is among those before
 pub record AreNew (seen : List (List ℕ)) (records : List Record) : Type 0 where
@@ -32,9 +32,9 @@ pub record AreNew (seen : List (List ℕ)) (records : List Record) : Type 0 wher
 abbrev pub GivesNew : List (List ℕ) → Result FileSlot StatusFault → Type 0
 GivesNew seen (Err refused) = ⊤
 GivesNew seen (Ok (Foreign stanza)) = ⊤
-GivesNew seen (Ok (Recorded entry)) = IsNew seen entry.found
+GivesNew seen (Ok (Recorded entry)) = IsNew seen entry.status
 
-unseen-gives : (seen : List (List ℕ)) (entry : FileRecord) (duplicate : StatusFault) (is_old : Bool) (refused : Option PkgFault) → is_seen seen entry.found.name ≡ is_old
+unseen-gives : (seen : List (List ℕ)) (entry : FileRecord) (duplicate : StatusFault) (is_old : Bool) (refused : Option PkgFault) → is_seen seen entry.status.name ≡ is_old
     → GivesNew seen (if is_old then Err duplicate else unless_fault refused (Ok (Recorded entry)))
 unseen-gives seen entry duplicate true refused e = tt
 unseen-gives seen entry duplicate false None e = e
@@ -77,12 +77,12 @@ new-other seen name other h = λ same.
     or-false-left (bytes_eq name other) false (or-false-right (is_seen seen name) _ (sym (seen-twice seen name other) ∙ h)) in
     true≢false (sym (bytes_eq-same name other (sym same)) ∙ differs)
 
-with-new : (seen : List (List ℕ)) (found : Record) (later : List Record) → IsNew seen found → AreNew (seen ++ found.name ∷ []) later
-    → AreNew seen (found ∷ later)
-with-new seen found later is_new are_new = record {
-  fresh = All-cons (IsNew seen) found later is_new (λ k d within. new-before seen _ found.name (are_new.fresh k d within));
-  distinct = AllPairs-cons (λ earlier later. earlier.name ≢ later.name) found later
-      (λ k d within. new-other seen _ found.name (are_new.fresh k d within)) are_new.distinct;
+with-new : (seen : List (List ℕ)) (entry : Record) (later : List Record) → IsNew seen entry → AreNew (seen ++ entry.name ∷ []) later
+    → AreNew seen (entry ∷ later)
+with-new seen entry later is_new are_new = record {
+  fresh = All-cons (IsNew seen) entry later is_new (λ k d within. new-before seen _ entry.name (are_new.fresh k d within));
+  distinct = AllPairs-cons (λ earlier later. earlier.name ≢ later.name) entry later
+      (λ k d within. new-other seen _ entry.name (are_new.fresh k d within)) are_new.distinct;
 }
 
 -- the slots have new names
@@ -93,7 +93,7 @@ HaveNew seen slots = AreNew seen (records_of (entries_of slots))
 slot-new : (seen : List (List ℕ)) (slot : FileSlot) (later : List FileSlot) → GivesNew seen (Ok slot)
     → HaveNew (names_with seen slot) later → HaveNew seen (slot ∷ later)
 slot-new seen (Foreign stanza) later gives new = new
-slot-new seen (Recorded entry) later gives new = with-new seen entry.found (records_of (entries_of later)) gives new
+slot-new seen (Recorded entry) later gives new = with-new seen entry.status (records_of (entries_of later)) gives new
 
 joined-new : (seen : List (List ℕ)) (slot : FileSlot) (read : Result (List FileSlot) StatusFault) (slots : List FileSlot)
     → GivesNew seen (Ok slot) → ((later : List FileSlot) → read ≡ Ok later → HaveNew (names_with seen slot) later)

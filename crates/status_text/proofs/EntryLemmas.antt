@@ -24,21 +24,21 @@ config-field : (version : Option (List ℕ)) → IfSome version IsWritableVersio
 config-field None can = tt
 config-field (Some version) can = (can, tt)
 
-standing-stanza : (found : Record) (fields : List Field) → CanStand fields → IfSome found.config_version IsWritableVersion → WasTouched (touched_stanza found fields)
-standing-stanza found fields can config = (
+standing-stanza : (entry : Record) (fields : List Field) → CanStand fields → IfSome entry.config_version IsWritableVersion → WasTouched (touched_stanza entry fields)
+standing-stanza entry fields can config = (
   refl,
-  touched-writable (status_of found) (written_config_version found.state found.config_version) fields refl
-      (status-writable found.want found.flag found.state) (config-writable found.state found.config_version (config-field found.config_version config)) can,
+  touched-writable (status_of entry) (written_config_version entry.state entry.config_version) fields refl
+      (status-writable entry.want entry.flag entry.state) (config-writable entry.state entry.config_version (config-field entry.config_version config)) can,
 )
 
-pub touched-stanza : (found : Record) (fields : List Field) → AreWritable fields → IfSome found.config_version IsWritableVersion → WasTouched (touched_stanza found fields)
-touched-stanza found fields can config = standing-stanza found fields (CanStand-writable fields can) config
+pub touched-stanza : (entry : Record) (fields : List Field) → AreWritable fields → IfSome entry.config_version IsWritableVersion → WasTouched (touched_stanza entry fields)
+touched-stanza entry fields can config = standing-stanza entry fields (CanStand-writable fields can) config
 
-pub unpacked-stanza : (found : Record) (index_fields old_fields : List Field) → AreWritable index_fields → AreNoneOrWritable old_fields → IfSome found.config_version IsWritableVersion → WasTouched (unpacked_stanza found index_fields old_fields)
-unpacked-stanza found index_fields old_fields can old config = (
+pub unpacked-stanza : (entry : Record) (index_fields old_fields : List Field) → AreWritable index_fields → AreNoneOrWritable old_fields → IfSome entry.config_version IsWritableVersion → WasTouched (unpacked_stanza entry index_fields old_fields)
+unpacked-stanza entry index_fields old_fields can old config = (
   refl,
-  unpacked-writable (status_of found) found.config_version index_fields old_fields refl
-      (status-writable found.want found.flag found.state) (config-field found.config_version config) (CanStand-writable index_fields can) (CanStand-none old_fields old),
+  unpacked-writable (status_of entry) entry.config_version index_fields old_fields refl
+      (status-writable entry.want entry.flag entry.state) (config-field entry.config_version config) (CanStand-writable index_fields can) (CanStand-none old_fields old),
 )
 
 -- the fields of a stanza that can be written can
@@ -51,34 +51,34 @@ fields-writable stanza can = elim can [
 -- ---- entries
 
 -- the version that was configured last can be written
-last-writable : (entry : FileRecord) → IsWritableEntry entry → IfSome (last_configured entry.found) IsWritableVersion
+last-writable : (entry : FileRecord) → IsWritableEntry entry → IfSome (last_configured entry.status) IsWritableVersion
 last-writable entry can =
-    cond_both (has_configured_version entry.found.state) (Some entry.found.version) entry.found.config_version (λ version. IfSome version IsWritableVersion)
+    cond_both (has_configured_version entry.status.state) (Some entry.status.version) entry.status.config_version (λ version. IfSome version IsWritableVersion)
     (λ _. can.version) (λ _. can.config_version)
 
-kept-writable : (entry : FileRecord) → IsWritableEntry entry → IfSome (kept_config_version entry.found) IsWritableVersion
+kept-writable : (entry : FileRecord) → IsWritableEntry entry → IfSome (kept_config_version entry.status) IsWritableVersion
 kept-writable entry can =
-    cond_both (is_unconfigured_state entry.found.state || is_installed_state entry.found.state) (last_configured entry.found) None (λ version. IfSome version IsWritableVersion)
+    cond_both (is_unconfigured_state entry.status.state || is_installed_state entry.status.state) (last_configured entry.status) None (λ version. IfSome version IsWritableVersion)
     (λ _. last-writable entry can) (λ _. tt)
 
-touched-entry : (change : Record → Record) (entry : FileRecord) → IsWritableEntry entry → IsWritableVersion (change entry.found).version → IfSome (change entry.found).config_version IsWritableVersion → IsWritableEntry (touched_entry change entry)
+touched-entry : (change : Record → Record) (entry : FileRecord) → IsWritableEntry entry → IsWritableVersion (change entry.status).version → IfSome (change entry.status).config_version IsWritableVersion → IsWritableEntry (touched_entry change entry)
 touched-entry change entry can version config = record {
-  stanza = inr (standing-stanza (change entry.found) (lasting_fields entry.found.state entry.stanza.fields)
-      (CanStand-lasting entry.found.state entry.stanza.fields (CanStand-writable entry.stanza.fields (fields-writable entry.stanza can.stanza))) config);
+  stanza = inr (standing-stanza (change entry.status) (lasting_fields entry.status.state entry.stanza.fields)
+      (CanStand-lasting entry.status.state entry.stanza.fields (CanStand-writable entry.stanza.fields (fields-writable entry.stanza can.stanza))) config);
   version = version;
   config_version = config;
 }
 
 unpacked-entry : (indexed : IndexStanza) (entry : FileRecord) → IsWritableIndexed indexed → IsWritableEntry entry → IsWritableEntry (unpacked_entry indexed entry)
 unpacked-entry indexed entry is can = record {
-  stanza = inr (unpacked-stanza (unpacked_entry indexed entry).found indexed.fields entry.stanza.fields is.fields (inr (fields-writable entry.stanza can.stanza)) (kept-writable entry can));
+  stanza = inr (unpacked-stanza (unpacked_entry indexed entry).status indexed.fields entry.stanza.fields is.fields (inr (fields-writable entry.stanza can.stanza)) (kept-writable entry can));
   version = is.version;
   config_version = kept-writable entry can;
 }
 
 new-entry : (indexed : IndexStanza) → IsWritableIndexed indexed → IsWritableEntry (new_entry indexed)
 new-entry indexed is = record {
-  stanza = inr (unpacked-stanza (new_entry indexed).found indexed.fields [] is.fields (inl refl) tt);
+  stanza = inr (unpacked-stanza (new_entry indexed).status indexed.fields [] is.fields (inl refl) tt);
   version = is.version;
   config_version = tt;
 }
@@ -87,7 +87,7 @@ new-entry indexed is = record {
 all-changed : (test : Record → Bool) (change : FileRecord → FileRecord) (entries : List FileRecord) → ((entry : FileRecord) → IsWritableEntry entry → IsWritableEntry (change entry)) → AllByRecursion IsWritableEntry entries → AllByRecursion IsWritableEntry (changed_entries test change entries)
 all-changed test change [] keeps all = tt
 all-changed test change (entry ∷ entries) keeps all =
-    (cond_both (test entry.found) (change entry) entry IsWritableEntry (λ _. keeps entry all.0) (λ _. all.0), all-changed test change entries keeps all.1)
+    (cond_both (test entry.status) (change entry) entry IsWritableEntry (λ _. keeps entry all.0) (λ _. all.0), all-changed test change entries keeps all.1)
 
 after-unpack : (indexed : IndexStanza) (entries : List FileRecord) → IsWritableIndexed indexed → AllByRecursion IsWritableEntry entries → AllByRecursion IsWritableEntry (entries_after_unpack indexed entries)
 after-unpack indexed entries is all =
@@ -107,4 +107,4 @@ stay-writable indexed (step.Configure names) entries is all =
 stay-writable indexed (step.Remove name) entries is all =
     all-changed (is_named name) (touched_entry removed) entries (λ entry can. touched-entry removed entry can can.version (last-writable entry can)) all
 stay-writable indexed (step.Purge name) entries is all =
-    all-filter IsWritableEntry (λ entry. not (is_named name entry.found)) entries all
+    all-filter IsWritableEntry (λ entry. not (is_named name entry.status)) entries all

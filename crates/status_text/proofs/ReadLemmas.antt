@@ -57,9 +57,9 @@ stanza_in-plain n line lines =
 
 stanza_in-one : (fields : List Field) (text : List ℕ) (n : ℕ) → IsOne fields text → stanza_in Plain n (lines_of text) ≡ Some (stanza_of Plain n (lines_of text))
 stanza_in-one fields text n one =
-    let found = some-lines 1 one.has.pieces (subst (λ (fs : List Field). 0 < length fs) (sym (one.has.shown 1)) one.some) in
-    let lines = one.has.lines ∙ found.2 in
-    ap (stanza_in Plain n) lines ∙ stanza_in-plain n found.0 found.1 ∙ ap (λ ls. Some (stanza_of Plain n ls)) (sym lines)
+    let first = some-lines 1 one.has.pieces (subst (λ (fs : List Field). 0 < length fs) (sym (one.has.shown 1)) one.some) in
+    let lines = one.has.lines ∙ first.2 in
+    ap (stanza_in Plain n) lines ∙ stanza_in-plain n first.0 first.1 ∙ ap (λ ls. Some (stanza_of Plain n ls)) (sym lines)
 
 -- it has the fields and the bytes
 read-one : (fields : List Field) (text : List ℕ) (n : ℕ) → IsOne fields text → read_stanza (stanza_of Plain n (lines_of text)) ≡ record { fields = fields; bytes = Some text }

@@ -5,4 +5,4 @@ use Rattle.std.specs.List.{list_any}
 
 pub any-lent : (test : List ℕ → Bool) (names : List (Bor (List ℕ))) → list_any (λ name. test name.now) names ≡ list_any test (map (λ name. name.now) names)
 any-lent test [] = refl
-any-lent test (name ∷ names) = ap (λ found. test name.now || found) (any-lent test names)
+any-lent test (name ∷ names) = ap (λ rest. test name.now || rest) (any-lent test names)

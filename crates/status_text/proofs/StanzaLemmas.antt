@@ -36,10 +36,10 @@ pub HasFields-written : (fields : List Field) → AllByRecursion IsWritable fiel
 HasFields-written [] can = record { pieces = []; lines = refl; each = tt; shown = λ n. refl; inside = tt; whole = λ rest. refl }
 HasFields-written (field ∷ fields) can =
     let later = HasFields-written fields can.1 in
-    let found = written field can.0 in
-    let line = found.0 in
-    let more = found.1 in
-    let is = found.2 in
+    let own = written field can.0 in
+    let line = own.0 in
+    let more = own.1 in
+    let is = own.2 in
     let whole = IsWhole-field field in
     let joined : lines_of (field_text field ++ fields_text fields) ≡ (line ∷ more) ++ lines_of (fields_text fields) =
     whole (fields_text fields) ∙ ap (λ ls. ls ++ lines_of (fields_text fields)) is.lines in

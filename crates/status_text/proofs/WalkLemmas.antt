@@ -8,11 +8,11 @@ use Rattle.relation.specs.PkgFields.{field_named}
 use Rattle.rules.specs.Stanza.{marks_essential}
 use Rattle.stanza.specs.Field.{FieldText, same_name, value_named}
 use Rattle.status_text.specs.Record.{text_in}
-use Rattle.status_text.specs.Walk.{found_in, with_field}
+use Rattle.status_text.specs.Walk.{record_fields_in, with_field}
 
-any_first : (test found later : Bool) → (test || (found || later)) ≡ ((test || found) || later)
-any_first true found later = refl
-any_first false found later = refl
+any_first : (test earlier later : Bool) → (test || (earlier || later)) ≡ ((test || earlier) || later)
+any_first true earlier later = refl
+any_first false earlier later = refl
 
 any_alone : (test : Bool) → (test || false) ≡ test
 any_alone true = refl
@@ -22,11 +22,11 @@ essential_more : (fields : List FieldText) (field : FieldText)
     → is_essential (fields ++ field ∷ []) ≡ (is_essential fields || marks_essential (field_of field))
 essential_more [] field = any_alone (marks_essential (field_of field))
 essential_more (first ∷ fields) field =
-    ap (λ found. marks_essential (field_of first) || found) (essential_more fields field)
+    ap (λ rest. marks_essential (field_of first) || rest) (essential_more fields field)
     ∙ any_first (marks_essential (field_of first)) (is_essential fields) (marks_essential (field_of field))
 
 pub found_more : (line : ℕ) (fields : List FieldText) (field : FieldText)
-    → found_in line (fields ++ field ∷ []) ≡ with_field (found_in line fields) field
+    → record_fields_in line (fields ++ field ∷ []) ≡ with_field (record_fields_in line fields) field
 found_more line fields field =
     rw (
       fields_more line fields field,

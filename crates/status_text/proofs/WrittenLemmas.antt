@@ -22,24 +22,24 @@ lines_of-closed_some [] some = absurd (omega arith)
 lines_of-closed_some (b ∷ bs) some = lines_of-closed b bs
 
 IsOne-found : (stanza : StanzaText) → IsFound stanza → IsOne (map field_of stanza.fields) (closed stanza.raw)
-IsOne-found stanza found =
-    let alone = found.alone in
-    let pieces = found.pieces in
+IsOne-found stanza is_found =
+    let alone = is_found.alone in
+    let pieces = is_found.pieces in
     let read : lines_of stanza.raw ≡ alone.lines =
     ap (λ (s : StanzaText). lines_of s.raw) alone.is ∙ lines_of-concat alone.lines alone.are in
     let lines : lines_of (closed stanza.raw) ≡ close_last alone.lines =
-    lines_of-closed_some stanza.raw (subst (λ ls. 0 < length ls) (sym read) found.some) ∙ ap close_last read in
+    lines_of-closed_some stanza.raw (subst (λ ls. 0 < length ls) (sym read) is_found.some) ∙ ap close_last read in
     record {
       has = record {
         pieces = close_pieces pieces;
-        lines = lines ∙ ap close_last found.groups.lines ∙ lines-closed pieces;
-        each = each-closed pieces found.groups.each;
-        shown = λ n. fields-closed n pieces found.groups.each ∙ found.fields n;
+        lines = lines ∙ ap close_last is_found.groups.lines ∙ lines-closed pieces;
+        each = each-closed pieces is_found.groups.each;
+        shown = λ n. fields-closed n pieces is_found.groups.each ∙ is_found.fields n;
         inside = subst NoSeparators (sym lines) (NoSeparators-closed alone.lines alone.inside);
         whole = IsWhole-closed (without_newline stanza.raw);
       };
-      some = found.writable.some;
-      names = found.writable.names;
+      some = is_found.writable.some;
+      names = is_found.writable.names;
     }
 
 one-read : (stanza : Stanza) → WasRead stanza → IsOne stanza.fields (stanza_text stanza)

@@ -23,10 +23,10 @@ kept_record arch stanza name mark version config_version is_essential = record {
 }
 
 -- the record has a name (Policy 5.6.1), and the stanza of a present one reads as its package
-pub record IsKept (arch : List ℕ) (stanza : StanzaText) (found : Record) : Type 0 where
-  pub name : IsTrue (is_name found.name)
-  pub pkg : is_present_state found.state ≡ true → read_pkg arch stanza ≡ Ok (pkg_of found)
+pub record IsKept (arch : List ℕ) (stanza : StanzaText) (entry : Record) : Type 0 where
+  pub name : IsTrue (is_name entry.name)
+  pub pkg : is_present_state entry.state ≡ true → read_pkg arch stanza ≡ Ok (pkg_of entry)
 
 -- this is the package of the record, where it is present, as it was tested
 abbrev pub IsTested : Record → Option Pkg → Type 0
-IsTested found tested = is_present_state found.state ≡ true → tested ≡ Some (pkg_of found)
+IsTested entry tested = is_present_state entry.state ≡ true → tested ≡ Some (pkg_of entry)

@@ -10,7 +10,7 @@ use Rattle.rules.specs.declared.status.State.{State}
 use Rattle.stanza.specs.Field.{FieldText, value_named}
 use Rattle.stanza.specs.Stanza.{StanzaText}
 use Rattle.status_text.specs.Words.{read_words}
-use Rattle.status_text.specs.declared.error.RequiredField.TheVariants as required
+use Rattle.status_text.specs.declared.error.StatusField.TheVariants as required
 use Rattle.status_text.specs.declared.error.StatusFault.{StatusFault}
 use Rattle.status_text.specs.declared.error.StatusFault.TheVariants as fault
 use Rattle.status_text.specs.declared.words.Mark.{Mark}

@@ -26,7 +26,7 @@ use Rattle.status_text.specs.declared.slot.Slot.TheVariants.{Recorded, Foreign}
 
 -- the text of a field, if there is one
 abbrev pub text_in : Option FieldText → Option (List ℕ)
-text_in field = option_map (λ found. found.value) field
+text_in field = option_map (λ field_text. field_text.value) field
 
 -- the field Version of a stanza, and its field Config-Version
 abbrev pub version_field : StanzaText → Option FieldText
@@ -85,7 +85,7 @@ record_of arch stanza mark = record {
 
 -- the entry of a stanza, of which Status says this
 abbrev pub entry_of : List ℕ → StanzaText → Mark → FileRecord
-entry_of arch stanza mark = record { found = record_of arch stanza mark; stanza = read_stanza stanza }
+entry_of arch stanza mark = record { status = record_of arch stanza mark; stanza = read_stanza stanza }
 
 -- one of these names is the name
 abbrev pub is_seen : List (List ℕ) → List ℕ → Bool

@@ -38,5 +38,5 @@ stanza_of (Foreign stanza) = read_stanza stanza
 
 -- the names with that of a slot behind them, if it has a record
 abbrev pub names_with : List (List ℕ) → FileSlot → List (List ℕ)
-names_with seen (Recorded entry) = seen ++ entry.found.name ∷ []
+names_with seen (Recorded entry) = seen ++ entry.status.name ∷ []
 names_with seen (Foreign stanza) = seen

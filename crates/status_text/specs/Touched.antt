@@ -23,20 +23,20 @@ AreNoneOrWritable fields = (fields ≡ []) ⊎ AreWritable fields
 
 -- a stanza that an action touches can be written where its fields could
 abbrev pub TouchedIsWritable : Type 0
-TouchedIsWritable = (found : Record) (fields : List Field)
-    → AreWritable fields → IfSome found.config_version IsWritableVersion → WasTouched (touched_stanza found fields)
+TouchedIsWritable = (entry : Record) (fields : List Field)
+    → AreWritable fields → IfSome entry.config_version IsWritableVersion → WasTouched (touched_stanza entry fields)
 
 -- the stanza of an unpacked package can be written where the fields of the index could, and those of the stanza before it, if there was one
 abbrev pub UnpackedIsWritable : Type 0
-UnpackedIsWritable = (found : Record) (index_fields old_fields : List Field)
-    → AreWritable index_fields → AreNoneOrWritable old_fields → IfSome found.config_version IsWritableVersion
-    → WasTouched (unpacked_stanza found index_fields old_fields)
+UnpackedIsWritable = (entry : Record) (index_fields old_fields : List Field)
+    → AreWritable index_fields → AreNoneOrWritable old_fields → IfSome entry.config_version IsWritableVersion
+    → WasTouched (unpacked_stanza entry index_fields old_fields)
 
 -- an entry that can be written: its stanza, its version, and its config version if there is one
 pub record IsWritableEntry (entry : FileRecord) : Type 0 where
   pub stanza : IsWritableStanza entry.stanza
-  pub version : IsWritableVersion entry.found.version
-  pub config_version : IfSome entry.found.config_version IsWritableVersion
+  pub version : IsWritableVersion entry.status.version
+  pub config_version : IfSome entry.status.config_version IsWritableVersion
 
 -- a stanza of an index whose fields and version can be written
 pub record IsWritableIndexed (indexed : IndexStanza) : Type 0 where

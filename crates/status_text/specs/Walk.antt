@@ -6,12 +6,12 @@ use Rattle.relation.specs.PkgFields.{field_named, fields_in, first_named}
 use Rattle.rules.specs.Stanza.{marks_essential}
 use Rattle.stanza.specs.Field.{FieldText}
 use Rattle.stanza.specs.Stanza.{StanzaText}
-use Rattle.status_text.specs.declared.walk.Found.{Found}
+use Rattle.status_text.specs.declared.walk.RecordFields.{RecordFields}
 
 -- what is found among these fields, of a stanza that begins on this line: the first field of each name, and whether one
 -- marks the package essential
-abbrev pub found_in : ℕ → List FieldText → Found
-found_in line fields = record {
+abbrev pub record_fields_in : ℕ → List FieldText → RecordFields
+record_fields_in line fields = record {
   pkg = fields_in line fields;
   status = field_named (codes "Status") fields;
   architecture = field_named (codes "Architecture") fields;
@@ -20,15 +20,15 @@ found_in line fields = record {
 }
 
 -- what was found, and one more field
-abbrev pub with_field : Found → FieldText → Found
-with_field found field = record {
-  pkg = Pkg.with_field found.pkg field;
-  status = first_named (codes "Status") found.status field;
-  architecture = first_named (codes "Architecture") found.architecture field;
-  config_version = first_named (codes "Config-Version") found.config_version field;
-  is_essential = found.is_essential || marks_essential (field_of field);
+abbrev pub with_field : RecordFields → FieldText → RecordFields
+with_field record_fields field = record {
+  pkg = Pkg.with_field record_fields.pkg field;
+  status = first_named (codes "Status") record_fields.status field;
+  architecture = first_named (codes "Architecture") record_fields.architecture field;
+  config_version = first_named (codes "Config-Version") record_fields.config_version field;
+  is_essential = record_fields.is_essential || marks_essential (field_of field);
 }
 
 -- what is found in a stanza
-abbrev pub found_of : StanzaText → Found
-found_of stanza = found_in stanza.line stanza.fields
+abbrev pub record_fields_of : StanzaText → RecordFields
+record_fields_of stanza = record_fields_in stanza.line stanza.fields

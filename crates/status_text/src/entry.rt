@@ -11,7 +11,7 @@ ghost use Rattle.status_text.specs.Mark.{counts, name_in};
 ghost use Rattle.status_text.specs.Record as Spec;
 ghost use Rattle.status_text.specs.Record.{config_version_field, text_in, version_field};
 ghost use Rattle.status_text.specs.Slot.{names_with};
-ghost use Rattle.status_text.specs.Walk.{found_of};
+ghost use Rattle.status_text.specs.Walk.{record_fields_of};
 ghost use Rattle.status_text.specs.declared.slot.Slot.TheVariants as slot;
 
 use crate::error::{StatusError, StatusFault};
@@ -19,9 +19,9 @@ use crate::mark::{counts_by, mark_in};
 use crate::name::PackageName;
 use crate::package::TestedPkg;
 use crate::record::StatusRecord;
-use crate::seen::Seen;
+use crate::seen::SeenNames;
 use crate::slot::Slot;
-use crate::walk::Found;
+use crate::walk::RecordFields;
 use crate::words::Mark;
 use debversion::Version;
 use relation::{Acceptor, PkgFault, PkgFields, PkgValues};
@@ -31,7 +31,8 @@ use stanza::{Field, Stanza};
 // The version that the field spells, if there is one.
 fn version_in<'a>(field: &Option<Field<'a>>) -> Result<Option<Version<'a>>, PkgFault>
     ensures { MatchResult result
-        (λ version. (option_and_then version_fault field.now ≡ None) × (version ≡ text_in field.now))
+        (λ version. (option_and_then version_fault field.now ≡ None)
+        × (version ≡ text_in field.now))
         (λ refused. option_and_then version_fault field.now ≡ Some refused) }
 {
     match field {
@@ -51,7 +52,8 @@ fn version_at<'a>(
 ) -> Result<Option<Version<'a>>, PkgFault>
     requires { fields.now ≡ fields_of stanza.now }
     ensures { MatchResult result
-        (λ version. (Spec.version_fault_at state stanza.now ≡ None) × (version ≡ text_in (version_field stanza.now)))
+        (λ version. (Spec.version_fault_at state stanza.now ≡ None)
+        × (version ≡ text_in (version_field stanza.now)))
         (λ refused. Spec.version_fault_at state stanza.now ≡ Some refused) }
 {
     match fields.version() {
@@ -133,7 +135,7 @@ fn package_at<'a>(
 // What a stanza says of its package in this state behind the name: its version, its config version, and the package.
 fn rest_at<'a>(
     stanza: &Stanza<'a>,
-    found: &Found<'a>,
+    record_fields: &RecordFields<'a>,
     state: State,
     arch: &'a [u8],
     tables: Option<&Acceptor>,
@@ -145,38 +147,40 @@ fn rest_at<'a>(
     ),
     PkgFault,
 >
-    requires found { found.now ≡ found_of stanza.now }
+    requires record_fields { record_fields.now ≡ record_fields_of stanza.now }
     requires named { pkg_name_fault (fields_of stanza.now) ≡ None }
     ensures { MatchResult result
-        (λ rest. (Spec.later_fault state stanza.now ≡ None) × (rest.0 ≡ text_in (version_field stanza.now))
+        (λ rest. (Spec.later_fault state stanza.now ≡ None)
+        × (rest.0 ≡ text_in (version_field stanza.now))
         × (rest.1 ≡ Spec.config_version_at state rest.0 (text_in (config_version_field stanza.now)))
         × (is_present_state state ≡ true → rest.2 ≡ Some (pkg_of arch.now (fields_of stanza.now))))
         (λ refused. Spec.later_fault state stanza.now ≡ Some refused) }
 {
-    let version = version_at(stanza, &found.pkg, state)?;
-    let configured = config_version_at(&found.config_version, state, &version)?;
-    let tested = package_at(&found.pkg, state, arch, tables)?;
+    let version = version_at(stanza, &record_fields.pkg, state)?;
+    let configured = config_version_at(&record_fields.config_version, state, &version)?;
+    let tested = package_at(&record_fields.pkg, state, arch, tables)?;
     Ok((version, configured, tested))
 }
 
 // The record of a stanza that counts, of which Status says this.
 fn entry_of<'a>(
     stanza: &Stanza<'a>,
-    found: &Found<'a>,
+    record_fields: &RecordFields<'a>,
     name: &'a [u8],
     mark: Mark,
     arch: &'a [u8],
     tables: Option<&Acceptor>,
 ) -> Result<StatusRecord<'a>, PkgFault>
-    requires found { found.now ≡ found_of stanza.now }
+    requires record_fields { record_fields.now ≡ record_fields_of stanza.now }
     requires name { name.now ≡ name_in stanza.now }
     requires named { pkg_name_fault (fields_of stanza.now) ≡ None }
     requires valid { IsTrue (is_name name.now) }
     ensures { MatchResult result
-        (λ entry. (Spec.later_fault mark.state stanza.now ≡ None) × (entry ≡ Spec.entry_of arch.now stanza.now mark))
+        (λ entry. (Spec.later_fault mark.state stanza.now ≡ None)
+        × (entry ≡ Spec.entry_of arch.now stanza.now mark))
         (λ refused. Spec.later_fault mark.state stanza.now ≡ Some refused) }
 {
-    let (version, configured, tested) = rest_at(stanza, found, mark.state, arch, tables)?;
+    let (version, configured, tested) = rest_at(stanza, record_fields, mark.state, arch, tables)?;
     Ok(StatusRecord::new(
         arch,
         stanza.again(),
@@ -185,31 +189,34 @@ fn entry_of<'a>(
         version,
         configured,
         tested,
-        found.is_essential,
+        record_fields.is_essential,
     ))
 }
 
 // The record of a stanza that counts, whose name is noted.
 fn read_new<'a>(
-    seen: &mut Seen<'a>,
+    seen: &mut SeenNames<'a>,
     stanza: &Stanza<'a>,
-    found: &Found<'a>,
+    record_fields: &RecordFields<'a>,
     name: &'a [u8],
     mark: Mark,
     arch: &'a [u8],
     tables: Option<&Acceptor>,
 ) -> Result<StatusRecord<'a>, StatusError<'a>>
-    requires found { found.now ≡ found_of stanza.now }
+    requires record_fields { record_fields.now ≡ record_fields_of stanza.now }
     requires name { name.now ≡ name_in stanza.now }
     requires named { pkg_name_fault (fields_of stanza.now) ≡ None }
     requires valid { IsTrue (is_name name.now) }
-    ensures ok { IfOk result (λ entry. (Spec.read_new arch.now seen.old stanza.now mark ≡ Ok (slot.Recorded entry)) × (seen.new ≡ names_with seen.old (slot.Recorded entry))) }
-    ensures err { IfErr result (λ e. IsStatusFault e (Spec.read_new arch.now seen.old stanza.now mark)) }
+    ensures ok { IfOk result
+        (λ entry. (Spec.read_new arch.now seen.old stanza.now mark ≡ Ok (slot.Recorded entry))
+        × (seen.new ≡ names_with seen.old (slot.Recorded entry))) }
+    ensures err { IfErr result
+        (λ e. IsStatusFault e (Spec.read_new arch.now seen.old stanza.now mark)) }
 {
     if !seen.insert(name)? {
         return Err(StatusFault::DuplicatePackage(PackageName::new(name)).into());
     }
-    let entry = entry_of(stanza, found, name, mark, arch, tables)?;
+    let entry = entry_of(stanza, record_fields, name, mark, arch, tables)?;
     Ok(entry)
 }
 
@@ -218,33 +225,44 @@ fn counts<'a>(
     arch: &[u8],
     name: &'a [u8],
     stanza: &Stanza<'a>,
-    found: &Found<'a>,
+    record_fields: &RecordFields<'a>,
     state: State,
 ) -> Result<bool, StatusFault<'a>>
-    requires found { found.now ≡ found_of stanza.now }
+    requires record_fields { record_fields.now ≡ record_fields_of stanza.now }
     requires name { name.now ≡ name_in stanza.now }
     ensures { result ≡ counts arch.now stanza.now state }
 {
-    counts_by(arch, name, stanza, &found.architecture, state)
+    counts_by(arch, name, stanza, &record_fields.architecture, state)
 }
 
 /// The slot of a stanza behind others, whose names are noted. Its own name is noted too, if it has a record.
 pub fn read_slot<'a>(
-    seen: &mut Seen<'a>,
+    seen: &mut SeenNames<'a>,
     stanza: &Stanza<'a>,
     arch: &'a [u8],
     acceptor: &Acceptor,
 ) -> Result<Slot<'a, StatusRecord<'a>>, StatusError<'a>>
-    ensures ok { IfOk result (λ slot. (Spec.read_slot arch.now seen.old stanza.now ≡ Ok slot) × (seen.new ≡ names_with seen.old slot)) }
-    ensures err { IfErr result (λ e. IsStatusFault e (Spec.read_slot arch.now seen.old stanza.now)) }
+    ensures ok { IfOk result
+        (λ slot. (Spec.read_slot arch.now seen.old stanza.now ≡ Ok slot)
+        × (seen.new ≡ names_with seen.old slot)) }
+    ensures err { IfErr result
+        (λ e. IsStatusFault e (Spec.read_slot arch.now seen.old stanza.now)) }
 {
-    let found = Found::in_stanza(stanza);
-    let name = found.pkg.name()?;
-    let mark = mark_in(stanza, &found.status)?;
-    if !counts(arch, name, stanza, &found, mark.state)? {
+    let record_fields = RecordFields::in_stanza(stanza);
+    let name = record_fields.pkg.name()?;
+    let mark = mark_in(stanza, &record_fields.status)?;
+    if !counts(arch, name, stanza, &record_fields, mark.state)? {
         return Ok(Slot::Foreign(stanza.again()));
     }
-    let entry = read_new(seen, stanza, &found, name, mark, arch, Some(acceptor))?;
+    let entry = read_new(
+        seen,
+        stanza,
+        &record_fields,
+        name,
+        mark,
+        arch,
+        Some(acceptor),
+    )?;
     Ok(Slot::Recorded(entry))
 }
 
@@ -255,12 +273,12 @@ pub fn slot_alone<'a>(
 ) -> Result<Slot<'a, StatusRecord<'a>>, StatusFault<'a>>
     ensures { result ≡ Spec.read_slot arch.now [] stanza.now }
 {
-    let found = Found::in_stanza(stanza);
-    let name = found.pkg.name()?;
-    let mark = mark_in(stanza, &found.status)?;
-    if !counts(arch, name, stanza, &found, mark.state)? {
+    let record_fields = RecordFields::in_stanza(stanza);
+    let name = record_fields.pkg.name()?;
+    let mark = mark_in(stanza, &record_fields.status)?;
+    if !counts(arch, name, stanza, &record_fields, mark.state)? {
         return Ok(Slot::Foreign(stanza.again()));
     }
-    let entry = entry_of(stanza, &found, name, mark, arch, None)?;
+    let entry = entry_of(stanza, &record_fields, name, mark, arch, None)?;
     Ok(Slot::Recorded(entry))
 }

@@ -12,14 +12,14 @@ use thiserror::Error;
 
 /// A field without which a stanza of the status file says nothing of its package.
 #[derive(Clone, Copy, Debug, PartialEq, Eq)]
-pub enum RequiredField {
+pub enum StatusField {
     /// `Status`
     Status,
     /// `Architecture`
     Architecture,
 }
 
-impl fmt::Display for RequiredField {
+impl fmt::Display for StatusField {
     ghost use Rattle.std.specs.Prelude.{Some};
     ghost use Rattle.status_text.specs.Error.{field_name};
 
@@ -27,8 +27,8 @@ impl fmt::Display for RequiredField {
 
     fn fmt<W: fmt::Write>(&self, f: &mut fmt::Formatter<W>) -> fmt::Result {
         match self {
-            RequiredField::Status => f.write_str("Status"),
-            RequiredField::Architecture => f.write_str("Architecture"),
+            StatusField::Status => f.write_str("Status"),
+            StatusField::Architecture => f.write_str("Architecture"),
         }
     }
 }
@@ -44,7 +44,7 @@ pub enum StatusFault<'a> {
     Pkg(PkgFault),
     /// A required field isn't in the stanza that begins on this line.
     #[error("E9 MissingField {0} {1}")]
-    MissingField(usize, RequiredField),
+    MissingField(usize, StatusField),
     /// The value of Status on this line isn't three words of dpkg(1).
     #[error("E12 BadStatus {0}")]
     BadStatus(usize),

@@ -41,7 +41,9 @@ fn push_record<'s, 'a>(
     records: &mut Vec<&'s StatusRecord<'a>>,
     slot: &'s Slot<'a, StatusRecord<'a>>,
 ) -> Result<(), AllocError>
-    ensures { OnOk result (map (λ r. r.now) records.new.items ≡ map (λ r. r.now) records.old.items ++ entry_in slot.now) }
+    ensures { OnOk result
+        (map (λ r. r.now) records.new.items ≡ map (λ r. r.now) records.old.items
+        ++ entry_in slot.now) }
 {
     match slot {
         Slot::Recorded(record) => {
@@ -77,7 +79,8 @@ impl<'a> StatusFile<'a> {
         ensures arch { IfOk result (λ file. file.arch ≡ arch.now) }
         ensures ok { IfOk result (λ file. Spec.read_status arch.now text.now ≡ Ok file.slots) }
         ensures err { IfErr result (λ e. IsStatusFault e (Spec.read_status arch.now text.now)) }
-        ensures too_long { TEXT_BYTES < length text.now → result ≡ Err (error.Refused fault.TooLarge) }
+        ensures too_long { TEXT_BYTES < length text.now → result
+            ≡ Err (error.Refused fault.TooLarge) }
     {
         let slots = read_status(alloc, text, arch)?;
         Ok(StatusFile { arch, slots })
@@ -101,7 +104,8 @@ impl<'a> StatusFile<'a> {
 
     /// The records, in the order of the file. No two have the same name. Memory alone can fail. Linear in the stanzas.
     pub fn records(&self, alloc: Global) -> Result<Vec<&StatusRecord<'a>>, AllocError>
-        ensures records { IfOk result (λ records. map (λ r. r.now) records.items ≡ entries_of self.now.slots) }
+        ensures records { IfOk result
+            (λ records. map (λ r. r.now) records.items ≡ entries_of self.now.slots) }
         ensures read { WereRead self.now.arch self.now.slots }
         ensures distinct { HasDistinctNames (slot_records self.now.slots) }
     {

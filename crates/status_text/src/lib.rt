@@ -20,7 +20,7 @@ mod words;
 mod write;
 
 pub use alone::read_alone;
-pub use error::{RequiredField, StatusError, StatusFault};
+pub use error::{StatusError, StatusFault, StatusField};
 pub use file::StatusFile;
 pub use name::PackageName;
 pub use package::TestedPkg;

@@ -4,7 +4,7 @@ ghost use Rattle.std.specs.Option.{option_map};
 ghost use Rattle.status_text.specs.Mark as Spec;
 ghost use Rattle.status_text.specs.Mark.{name_in};
 
-use crate::error::{RequiredField, StatusFault};
+use crate::error::{StatusFault, StatusField};
 use crate::name::PackageName;
 use crate::words::{Mark, read_words};
 use relation::counts_for;
@@ -16,7 +16,7 @@ pub fn mark_in<'a>(stanza: &Stanza<'a>, status: &Option<Field<'a>>) -> Result<Ma
     ensures { result ≡ Spec.mark_in stanza.now status.now }
 {
     match status {
-        None => Err(StatusFault::MissingField(stanza.line(), RequiredField::Status)),
+        None => Err(StatusFault::MissingField(stanza.line(), StatusField::Status)),
         Some(field) => match read_words(field.value()) {
             None => Err(StatusFault::BadStatus(field.line())),
             Some(mark) => Ok(mark),
@@ -33,12 +33,14 @@ pub fn counts_by<'a>(
     state: State,
 ) -> Result<bool, StatusFault<'a>>
     requires { name.now ≡ name_in stanza.now }
-    ensures { result ≡ Spec.counts_by arch.now stanza.now state (option_map (λ field. field.value) architecture.now) }
+    ensures { result
+        ≡ Spec.counts_by arch.now stanza.now state
+        (option_map (λ field. field.value) architecture.now) }
 {
     match architecture {
         None if state.is_present() => Err(StatusFault::MissingField(
             stanza.line(),
-            RequiredField::Architecture,
+            StatusField::Architecture,
         )),
         None => Ok(true),
         Some(field) if counts_for(arch, field.value()) => Ok(true),

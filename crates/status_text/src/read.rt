@@ -14,7 +14,7 @@ ghost use Rattle.status_text.specs.declared.error.StatusFault.TheVariants as fau
 use crate::entry::read_slot;
 use crate::error::{StatusError, StatusFault};
 use crate::record::StatusRecord;
-use crate::seen::Seen;
+use crate::seen::SeenNames;
 use crate::slot::Slot;
 use relation::Acceptor;
 use rules::TEXT_BYTES;
@@ -22,12 +22,14 @@ use stanza::{Stanza, StanzaError, Stanzas};
 use std::alloc::Global;
 
 fn read_item<'a>(
-    seen: &mut Seen<'a>,
+    seen: &mut SeenNames<'a>,
     item: &Result<Stanza<'a>, StanzaError>,
     arch: &'a [u8],
     acceptor: &Acceptor,
 ) -> Result<Slot<'a, StatusRecord<'a>>, StatusError<'a>>
-    ensures ok { IfOk result (λ slot. (Spec.read_item arch.now seen.old item.now ≡ Ok slot) × (seen.new ≡ names_with seen.old slot)) }
+    ensures ok { IfOk result
+        (λ slot. (Spec.read_item arch.now seen.old item.now ≡ Ok slot)
+        × (seen.new ≡ names_with seen.old slot)) }
     ensures err { IfErr result (λ e. IsStatusFault e (Spec.read_item arch.now seen.old item.now)) }
 {
     match item {
@@ -42,13 +44,16 @@ fn slots_in<'a>(
     text: &'a [u8],
     arch: &'a [u8],
 ) -> Result<Vec<Slot<'a, StatusRecord<'a>>>, StatusError<'a>>
-    ensures ok { IfOk result (λ slots. Spec.slots_in arch.now (items_of Plain text.now) [] ≡ Ok slots.items) }
-    ensures distinct { IfOk result (λ slots. HasDistinctNames (records_of (entries_of slots.items))) }
-    ensures err { IfErr result (λ e. IsStatusFault e (Spec.slots_in arch.now (items_of Plain text.now) [])) }
+    ensures ok { IfOk result
+        (λ slots. Spec.slots_in arch.now (items_of Plain text.now) [] ≡ Ok slots.items) }
+    ensures distinct { IfOk result
+        (λ slots. HasDistinctNames (records_of (entries_of slots.items))) }
+    ensures err { IfErr result
+        (λ e. IsStatusFault e (Spec.slots_in arch.now (items_of Plain text.now) [])) }
 {
     let acceptor = Acceptor::new(alloc)?;
     let mut slots = Vec::new(alloc);
-    let mut seen = Seen::new(alloc);
+    let mut seen = SeenNames::new(alloc);
     for item in Stanzas::new(text) {
         let slot = read_item(&mut seen, &item, arch, &acceptor)?;
         slots.push(slot)?;
@@ -67,7 +72,8 @@ pub fn read_status<'a>(
     arch: &'a [u8],
 ) -> Result<Vec<Slot<'a, StatusRecord<'a>>>, StatusError<'a>>
     ensures ok { IfOk result (λ slots. Spec.read_status arch.now text.now ≡ Ok slots.items) }
-    ensures distinct { IfOk result (λ slots. HasDistinctNames (records_of (entries_of slots.items))) }
+    ensures distinct { IfOk result
+        (λ slots. HasDistinctNames (records_of (entries_of slots.items))) }
     ensures err { IfErr result (λ e. IsStatusFault e (Spec.read_status arch.now text.now)) }
     ensures too_long { TEXT_BYTES < length text.now → result ≡ Err (error.Refused fault.TooLarge) }
 {

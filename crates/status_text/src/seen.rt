@@ -8,11 +8,11 @@ use std::marker::Model;
 
 /// Names, in the order in which they came.
 #[derive(Drop)]
-pub struct Seen<'a> {
+pub struct SeenNames<'a> {
     names: IndexSet<&'a [u8]>,
 }
 
-impl<'a> Model for Seen<'a> {
+impl<'a> Model for SeenNames<'a> {
     ghost use Rattle.std.specs.Prelude.{List, ℕ, map};
 
     ghost Value = { List (List ℕ) };
@@ -20,12 +20,12 @@ impl<'a> Model for Seen<'a> {
     ghost view = { λ seen. map (λ name. name.now) seen.names.keys };
 }
 
-impl<'a> Seen<'a> {
+impl<'a> SeenNames<'a> {
     /// No names.
-    pub fn new(alloc: Global) -> Seen<'a>
+    pub fn new(alloc: Global) -> SeenNames<'a>
         ensures { result ≡ [] }
     {
-        Seen {
+        SeenNames {
             names: IndexSet::new(alloc),
         }
     }

@@ -2,14 +2,14 @@
 ghost use Rattle.std.specs.Prelude.{◌≡◌, []};
 ghost use Rattle.relation.specs.PkgFields.{first_named};
 ghost use Rattle.stanza.specs.Field.{same_name};
-ghost use Rattle.status_text.specs.Walk.{found_in, found_of, with_field};
+ghost use Rattle.status_text.specs.Walk.{record_fields_in, record_fields_of, with_field};
 
 use relation::{PkgFields, marks_essential};
 use stanza::{Field, Stanza};
 
 /// The fields that a record is read from, the first of each name, and whether the package is marked essential.
 #[derive(Drop)]
-pub struct Found<'a> {
+pub struct RecordFields<'a> {
     /// Those of the package.
     pub pkg: PkgFields<'a>,
     /// Status.
@@ -37,11 +37,11 @@ fn note<'a>(name: &[u8], place: &mut Option<Field<'a>>, field: &Field<'a>)
     }
 }
 
-impl<'a> Found<'a> {
-    fn new(line: usize) -> Found<'a>
-        ensures { result ≡ found_in line [] }
+impl<'a> RecordFields<'a> {
+    fn new(line: usize) -> RecordFields<'a>
+        ensures { result ≡ record_fields_in line [] }
     {
-        Found {
+        RecordFields {
             pkg: PkgFields::new(line),
             status: None,
             architecture: None,
@@ -61,13 +61,13 @@ impl<'a> Found<'a> {
     }
 
     /// What is found in the stanza.
-    pub fn in_stanza(stanza: &Stanza<'a>) -> Found<'a>
-        ensures { result ≡ found_of stanza.now }
+    pub fn in_stanza(stanza: &Stanza<'a>) -> RecordFields<'a>
+        ensures { result ≡ record_fields_of stanza.now }
     {
-        let mut found = Found::new(stanza.line());
+        let mut record_fields = RecordFields::new(stanza.line());
         for field in stanza.fields() {
-            found.add(&field);
+            record_fields.add(&field);
         }
-        found
+        record_fields
     }
 }

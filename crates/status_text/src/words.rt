@@ -40,7 +40,8 @@ fn word_len(text: &[u8]) -> usize
 
 // The first word, and what follows it.
 fn cut_word(text: &[u8]) -> Option<(&[u8], &[u8])>
-    ensures { MatchOption result (words_of text.now ≡ []) (λ cut. words_of text.now ≡ cut.0.now ∷ words_of cut.1.now) }
+    ensures { MatchOption result (words_of text.now ≡ [])
+        (λ cut. words_of text.now ≡ cut.0.now ∷ words_of cut.1.now) }
 {
     let (_, text) = text.split_at(white_len(text));
     if text.is_empty() {

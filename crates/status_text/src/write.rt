@@ -18,7 +18,9 @@ fn gap_before(value: &[u8]) -> &'static [u8]
 
 // The text of the field behind the bytes that are there; where memory is refused some of it may be there too.
 fn push_field(out: &mut Vec<u8>, name: &[u8], value: &[u8]) -> Result<(), AllocError>
-    ensures written { OnOk result (out.new.items ≡ out.old.items ++ field_text (record { name = name.now; value = value.now })) }
+    ensures written { OnOk result
+        (out.new.items ≡ out.old.items
+        ++ field_text (record { name = name.now; value = value.now })) }
     ensures behind { take (length out.old.items) out.new.items ≡ out.old.items }
 {
     out.extend_from_slice(name)?;
@@ -30,7 +32,9 @@ fn push_field(out: &mut Vec<u8>, name: &[u8], value: &[u8]) -> Result<(), AllocE
 
 /// Writes a field onto the end of a text. Where memory is refused the text stays as it was.
 pub fn write_field(out: &mut Vec<u8>, name: &[u8], value: &[u8]) -> Result<(), AllocError>
-    ensures written { OnOk result (out.new.items ≡ out.old.items ++ field_text (record { name = name.now; value = value.now })) }
+    ensures written { OnOk result
+        (out.new.items ≡ out.old.items
+        ++ field_text (record { name = name.now; value = value.now })) }
     ensures unchanged { OnErr result (out.new.items ≡ out.old.items) }
 {
     let start = out.len();

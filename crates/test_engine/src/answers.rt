@@ -1,8 +1,8 @@
 //! The calls over texts in memory, each once with ample memory. What is wanted is worked by hand from docs/FORMATS.md, Policy
 //! 7.2 and apt_preferences(5).
 use cli_engine::{
-    Answered, Candidate, Candidates, CheckPlan, CheckRefutation, JudgedPlan, JudgedRefutation,
-    Notes, RefutationVerdict, Rule, Solve, Solved, Verdict,
+    Answered, CandidateAnswer, CheckPlan, CheckRefutation, FindCandidates, JudgedPlan,
+    JudgedRefutation, Notes, RefutationVerdict, Rule, Solve, Solved, Verdict,
 };
 use inputs::{Each, Fault, Inputs, MemoryShelf, Refusal, Settings, Shelf, ask_bytes};
 use plantext::write_plan;
@@ -172,7 +172,7 @@ fn each_request_is_answered_over_one_reading(rt: HostRuntime) -> Result<(), Allo
     Ok(())
 }
 
-fn is_offer(offer: &Candidate, version: &[u8], priority: i32) -> bool {
+fn is_offer(offer: &CandidateAnswer, version: &[u8], priority: i32) -> bool {
     offer.version() == version && offer.priority() == priority
 }
 
@@ -180,9 +180,9 @@ fn is_offer(offer: &Candidate, version: &[u8], priority: i32) -> bool {
 fn candidates(
     alloc: Global,
     inputs: &Inputs<'_, 'static>,
-) -> Result<Items<Option<Candidate>>, Refusal> {
+) -> Result<Items<Option<CandidateAnswer>>, Refusal> {
     let names = ["bar", "baz"];
-    let question = Candidates {
+    let question = FindCandidates {
         names: names.as_slice(),
         tells_versions: false,
     };
@@ -192,7 +192,7 @@ fn candidates(
 
 // Whether the first name has this candidate, and the other none.
 fn are_offers(
-    answer: &Result<Items<Option<Candidate>>, Refusal>,
+    answer: &Result<Items<Option<CandidateAnswer>>, Refusal>,
     version: &[u8],
     priority: i32,
 ) -> bool {

@@ -1,11 +1,11 @@
 //! The lines of documents, by hand as RFC 8259 has them: the members of an object stand in the order of the bytes of their keys.
-use documents::{
+use json_answers::{
     Archives, Members, candidate_value, document, no_candidate_value, put_bad_line, put_sentences,
     put_steps, put_undecided, put_verdict, read_archives,
 };
 use plantext::{PlanError, read_plan};
 use rules::{Reason, Rule, Text, Verdict};
-use stanza::ReadError;
+use stanza::ReaderError;
 use std::alloc::{AllocError, Global};
 
 /// Why a document wasn't made.
@@ -28,8 +28,8 @@ impl From<PlanError> for Failed {
     }
 }
 
-impl From<ReadError> for Failed {
-    fn from(_e: ReadError) -> Failed {
+impl From<ReaderError> for Failed {
+    fn from(_e: ReaderError) -> Failed {
         Failed::Index
     }
 }

@@ -3,7 +3,7 @@
 ghost use Rattle.std.specs.Prelude.{◌≡◌, ℕ, IfErr};
 ghost use Rattle.inputs.specs.declared.shelf.ReadError.TheVariants as error;
 
-use inputs::{Part, Progress, ReadError, Shelf};
+use inputs::{Progress, ReadError, Shelf, WholeText};
 use std::alloc::{AllocError, Global};
 
 /// Texts of two indices, a request to install one package, and its plan.
@@ -46,12 +46,12 @@ impl<'a> Shelf for Watched<'a> {
         0
     }
 
-    fn read(&mut self, alloc: Global, part: Part) -> Result<Vec<u8>, ReadError> {
+    fn read(&mut self, alloc: Global, part: WholeText) -> Result<Vec<u8>, ReadError> {
         match part {
-            Part::Status => copied(alloc, b""),
-            Part::Sources => copied(alloc, b"File: one\n\nFile: two\n"),
-            Part::Request => copied(alloc, self.request),
-            Part::Judged => copied(alloc, self.plan),
+            WholeText::Status => copied(alloc, b""),
+            WholeText::Sources => copied(alloc, b"File: one\n\nFile: two\n"),
+            WholeText::Request => copied(alloc, self.request),
+            WholeText::Judged => copied(alloc, self.plan),
         }
     }
 

@@ -55,7 +55,7 @@ fn write_index(alloc: Global, shown: &mut Vec<u8>, index: &Index<'_>) -> Result<
     for entry in index.packages() {
         write_entry(alloc, shown, entry)?;
     }
-    write_skipped(alloc, shown, index.skipped())
+    write_skipped(alloc, shown, index.skipped_count())
 }
 
 fn is_index(alloc: Global, index: &Index<'_>, wanted: &str) -> Result<bool, AllocError> {

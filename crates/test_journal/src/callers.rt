@@ -14,7 +14,7 @@ pub fn written(alloc: Global, file: Vec<u8>, bytes: &[u8], unsynced: Unsynced) -
     disk.write_at(end, bytes).ok()?;
     disk.sync().ok()?;
     let now = disk.calls().len();
-    disk.left(alloc, now, unsynced).ok()
+    disk.bytes_left(alloc, now, unsynced).ok()
 }
 
 /// Writes the bytes behind those of a file and doesn't sync: a crash may leave any bytes in their place.
@@ -25,5 +25,5 @@ pub fn unwritten(alloc: Global, file: Vec<u8>, bytes: &[u8], unsynced: Unsynced)
     let end = disk.len().ok()?;
     disk.write_at(end, bytes).ok()?;
     let now = disk.calls().len();
-    disk.left(alloc, now, unsynced).ok()
+    disk.bytes_left(alloc, now, unsynced).ok()
 }

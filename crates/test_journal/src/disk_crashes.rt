@@ -25,7 +25,7 @@ fn is_left(alloc: Global, row: &str) -> Result<bool, AllocError> {
     let moment = parts.next().unwrap_or_default();
     let moment = moment.parse::<usize>().unwrap_or(disk.calls().len());
     let unsynced = unsynced_of(parts.next().unwrap_or_default());
-    let left = disk.left(alloc, moment, unsynced)?;
+    let left = disk.bytes_left(alloc, moment, unsynced)?;
     Ok(left.as_slice() == parts.next().unwrap_or_default().as_bytes())
 }
 
@@ -82,7 +82,7 @@ fn the_readme_example(rt: HostRuntime) -> Result<(), Fail> {
     let alloc = rt.alloc();
     let mut disk = MemoryDisk::new(alloc, b"some bytes".to_vec(alloc)?);
     put(&mut disk, 0, b"written")?;
-    let left = disk.left(alloc, disk.calls().len(), Unsynced::Lost)?;
+    let left = disk.bytes_left(alloc, disk.calls().len(), Unsynced::Lost)?;
     assert_eq!(rt; left.as_slice(), b"writtentes".as_slice());
     Ok(())
 }

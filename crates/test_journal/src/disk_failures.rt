@@ -1,5 +1,5 @@
 //! Which calls of a file in memory fail, how they are counted and kept, and what a read gives after them.
-use disk::{Call, Disk, Failing, Fuse, MemoryDisk};
+use disk::{Disk, DiskCall, Failing, Fuse, MemoryDisk};
 use std::alloc::{AllocError, Global};
 use std::test::Fail;
 
@@ -41,8 +41,8 @@ fn failed_calls(disk: &mut MemoryDisk) -> u64 {
 
 // The place of the first call that failed, and how many did.
 fn kept_failures(disk: &MemoryDisk) -> (Option<usize>, usize) {
-    let first = disk.calls().iter().position(|made| made.failed());
-    let count = disk.calls().iter().filter(|made| made.failed()).count();
+    let first = disk.calls().iter().position(|made| made.has_failed());
+    let count = disk.calls().iter().filter(|made| made.has_failed()).count();
     (first, count)
 }
 
@@ -79,9 +79,9 @@ fn no_call_fails(rt: HostRuntime) -> Result<(), Fail> {
     assert_eq!(rt; disk.bytes(), b"abcde".as_slice());
     assert!(rt;
         matches!(disk.calls(), [a, b, c, d, e]
-        if matches!(a.call(), Call::Length) && matches!(b.call(), Call::Reading(1, 2))
-        && matches!(c.call(), Call::Writing(6, _)) && matches!(d.call(), Call::Cutting(5))
-        && matches!(e.call(), Call::Syncing))
+        if matches!(a.call(), DiskCall::Length) && matches!(b.call(), DiskCall::Reading(1, 2))
+        && matches!(c.call(), DiskCall::Writing(6, _)) && matches!(d.call(), DiskCall::Cutting(5))
+        && matches!(e.call(), DiskCall::Syncing))
     );
     Ok(())
 }

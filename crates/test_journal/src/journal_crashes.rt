@@ -45,7 +45,7 @@ fn left_steps(
     disk: &MemoryDisk,
     unsynced: Unsynced,
 ) -> Result<Option<usize>, AllocError> {
-    let left = disk.left(alloc, disk.calls().len(), unsynced)?;
+    let left = disk.bytes_left(alloc, disk.calls().len(), unsynced)?;
     Ok(steps_in(alloc, &left).ok())
 }
 
@@ -105,7 +105,7 @@ fn opened_steps(alloc: Global, disk: &mut MemoryDisk) -> Result<usize, OpenError
 fn is_left(alloc: Global, disk: &MemoryDisk) -> Result<bool, AllocError> {
     for count in 0..disk.calls().len() + 1 {
         for unsynced in UNSYNCED {
-            let left = disk.left(alloc, count, unsynced)?;
+            let left = disk.bytes_left(alloc, count, unsynced)?;
             if steps_in(alloc, &left).ok() != Some(1) {
                 return Ok(false);
             }

@@ -181,7 +181,7 @@ fn a_step_that_cannot_be_taken_is_named(rt: HostRuntime) -> Result<(), Fail> {
 // Whether from each file that a crash leaves the plan is taken to its end.
 fn is_made_up_for(alloc: Global, disk: &MemoryDisk) -> Result<bool, AllocError> {
     for unsynced in UNSYNCED {
-        let left = disk.left(alloc, disk.calls().len(), unsynced)?;
+        let left = disk.bytes_left(alloc, disk.calls().len(), unsynced)?;
         let mut next = MemoryDisk::new(alloc, left);
         if applied(alloc, &mut next, PLAN)?.as_str() != "3" {
             return Ok(false);

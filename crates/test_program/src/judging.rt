@@ -9,7 +9,9 @@ use cli::{
     Host, HostShelf, Openings, Paths, PutError, ReadError, Settings, Source, TextAt, Turn,
     ask_files,
 };
-use cli_engine::{Candidate, Candidates, CheckPlan, Fault, Input, JudgedPlan, Notes, Refusal};
+use cli_engine::{
+    CandidateAnswer, CheckPlan, Fault, FindCandidates, Input, JudgedPlan, Notes, Refusal,
+};
 use disk::MemoryDisk;
 use outcomes::{
     Exit, Outcome, candidate_line, exit_of_candidates, exit_of_refusal, exit_of_verdict,
@@ -115,11 +117,11 @@ const PATHS: Paths<'static> = Paths {
 
 // What is answered about the plan of the files of a host.
 fn judged<H: Host>(alloc: Global, host: &mut H) -> Result<JudgedPlan, Refusal> {
-    let mut seen = None;
+    let mut context = None;
     let mut shelf = HostShelf {
         host,
         paths: &PATHS,
-        seen: &mut seen,
+        context: &mut context,
         openings: Openings::none(),
     };
     let mut notes = Notes::new(alloc);
@@ -165,17 +167,17 @@ fn a_verdict_is_printed_as_an_answer(rt: HostRuntime) -> Result<(), Fail> {
 
 const FOO: &str = "Package: foo$Status: install ok installed$Version: 1$Architecture: all$";
 
-fn has_parts_of_foo(found: &Candidate) -> bool {
+fn has_parts_of_foo(found: &CandidateAnswer) -> bool {
     found.version() == b"1".as_slice() && found.priority() == 100
 }
 
-fn is_foo(alloc: Global, found: &Candidate) -> Result<bool, AllocError> {
+fn is_foo(alloc: Global, found: &CandidateAnswer) -> Result<bool, AllocError> {
     let line = candidate_line(alloc, b"foo", Some(found))?;
     Ok(line.as_slice() == b"foo 1 100\n".as_slice() && has_parts_of_foo(found))
 }
 
 // Whether these are `foo`, and none of the other name.
-fn are_foo_and_none(alloc: Global, found: &[Option<Candidate>]) -> Result<bool, AllocError> {
+fn are_foo_and_none(alloc: Global, found: &[Option<CandidateAnswer>]) -> Result<bool, AllocError> {
     match found {
         [Some(found), None] => is_foo(alloc, found),
         _ => Ok(false),
@@ -184,7 +186,7 @@ fn are_foo_and_none(alloc: Global, found: &[Option<Candidate>]) -> Result<bool, 
 
 fn answers_foo(
     alloc: Global,
-    answer: &Result<Items<Option<Candidate>>, Refusal>,
+    answer: &Result<Items<Option<CandidateAnswer>>, Refusal>,
 ) -> Result<bool, AllocError> {
     match answer {
         Ok(found) => Ok(
@@ -199,7 +201,7 @@ const NAMES: [&str; 2] = ["foo", "bar"];
 
 fn prints_foo(
     alloc: Global,
-    answer: &Result<Items<Option<Candidate>>, Refusal>,
+    answer: &Result<Items<Option<CandidateAnswer>>, Refusal>,
 ) -> Result<bool, AllocError> {
     let outcome = outcome_of_candidates(alloc, NAMES.as_slice(), answer)?;
     Ok(
@@ -212,17 +214,17 @@ fn add_foo(alloc: Global, host: &mut Memory<'_>) -> Result<(), Fail> {
     host.add(alloc, "sources", "")
 }
 
-fn answer_of_foo(alloc: Global) -> Result<Result<Items<Option<Candidate>>, Refusal>, Fail> {
+fn answer_of_foo(alloc: Global) -> Result<Result<Items<Option<CandidateAnswer>>, Refusal>, Fail> {
     let mut host = Memory::new(alloc);
     add_foo(alloc, &mut host)?;
-    let mut seen = None;
+    let mut context = None;
     let mut shelf = HostShelf {
         host: &mut host,
         paths: &PATHS,
-        seen: &mut seen,
+        context: &mut context,
         openings: Openings::none(),
     };
-    let question = Candidates {
+    let question = FindCandidates {
         names: NAMES.as_slice(),
         tells_versions: false,
     };

@@ -3,7 +3,7 @@ ghost use Rattle.std.specs.Prelude.{◌≡◌, IfErr};
 ghost use Rattle.inputs.specs.Counting.{Counts};
 ghost use Rattle.inputs.specs.declared.shelf.ReadError.TheVariants as ReadError;
 
-use cli::{Host, PutError, ReadError, ReadFailed, Source, Turn, run};
+use cli::{Host, PutError, ReadError, ReadFailed, Source, Stream, Turn, run};
 use disk::{Fuse, MemoryDisk};
 use std::alloc::{AllocError, Global};
 use std::test::Fail;
@@ -243,10 +243,14 @@ pub(crate) fn run_on(
     words: &[Vec<u8>],
     host: &mut Memory<'_>,
 ) -> Result<Printed, AllocError> {
-    let mut out = Vec::new(alloc);
-    let mut err = Vec::new(alloc);
+    let mut out = Stream::new(Vec::new(alloc));
+    let mut err = Stream::new(Vec::new(alloc));
     let status = run(alloc, words, host, &mut out, &mut err);
-    Ok(Printed { out, err, status })
+    Ok(Printed {
+        out: out.into_writer(),
+        err: err.into_writer(),
+        status,
+    })
 }
 
 /// A run on the words of this line over this host.

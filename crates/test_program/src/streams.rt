@@ -1,7 +1,7 @@
 //! Failures to write, and failures to read, of a file and for want of memory.
 use crate::memory::{Memory, copied, words_in};
 use crate::scenario::{CHECK_PLAN, add_plan};
-use cli::{Host, PutError, ReadError, ReadFailed, Source, Turn, refuse_for_memory, run};
+use cli::{Host, PutError, ReadError, ReadFailed, Source, Stream, Turn, refuse_for_memory, run};
 use disk::MemoryDisk;
 use std::alloc::{AllocError, Global};
 use std::io;
@@ -47,8 +47,8 @@ fn status_on<O: Write, E: Write>(
     alloc: Global,
     words: &[Vec<u8>],
     plan: &str,
-    out: &mut O,
-    err: &mut E,
+    out: &mut Stream<O>,
+    err: &mut Stream<E>,
 ) -> Result<u8, Fail> {
     let mut host = Memory::new(alloc);
     add_plan(alloc, &mut host, plan)?;
@@ -59,8 +59,8 @@ fn status_on<O: Write, E: Write>(
 fn status_of<O: Write, E: Write>(
     alloc: Global,
     plan: &str,
-    out: &mut O,
-    err: &mut E,
+    out: &mut Stream<O>,
+    err: &mut Stream<E>,
 ) -> Result<u8, Fail> {
     let words = words_in(alloc, CHECK_PLAN)?;
     status_on(alloc, words.as_slice(), plan, out, err)
@@ -71,37 +71,42 @@ fn an_answer_that_cannot_be_written_is_a_failure_of_the_device(
     rt: HostRuntime,
 ) -> Result<(), Fail> {
     for room in [0, 3] {
-        assert!(rt; is_failure(rt.alloc(), &mut Narrow { room })?, "{room}");
+        assert!(rt; is_failure(rt.alloc(), Narrow { room })?, "{room}");
     }
-    assert!(rt; is_failure(rt.alloc(), &mut Unflushed)?);
+    assert!(rt; is_failure(rt.alloc(), Unflushed)?);
     Ok(())
 }
 
 // Whether the answer `yes` to this writer ends with the status of a device, and with the refusal of it.
-fn is_failure<O: Write>(alloc: Global, out: &mut O) -> Result<bool, Fail> {
-    let mut err = Vec::new(alloc);
-    let status = status_of(alloc, "plan 1$", out, &mut err)?;
-    Ok(status == 5 && err.as_slice() == b"debplan: output: E26 Write\n".as_slice())
+fn is_failure<O: Write + Drop>(alloc: Global, out: O) -> Result<bool, Fail> {
+    let mut out = Stream::new(out);
+    let mut err = Stream::new(Vec::new(alloc));
+    let status = status_of(alloc, "plan 1$", &mut out, &mut err)?;
+    let said = err.writer().as_slice() == b"debplan: output: E26 Write\n".as_slice();
+    Ok(status == 5 && out.has_failed() && said && !err.has_failed())
 }
 
 #[test]
 fn an_answer_that_fits_is_written(rt: HostRuntime) -> Result<(), Fail> {
-    let mut err = Vec::new(rt.alloc());
-    let status = status_of(rt.alloc(), "plan 1$", &mut Narrow { room: 4 }, &mut err)?;
-    assert!(rt; status == 0 && err.is_empty());
+    let mut out = Stream::new(Narrow { room: 4 });
+    let mut err = Stream::new(Vec::new(rt.alloc()));
+    let status = status_of(rt.alloc(), "plan 1$", &mut out, &mut err)?;
+    assert!(rt; status == 0 && !out.has_failed() && err.writer().is_empty());
     Ok(())
 }
 
 #[test]
 fn a_refusal_that_cannot_be_written_keeps_its_status(rt: HostRuntime) -> Result<(), Fail> {
     let alloc = rt.alloc();
-    let mut out = Vec::new(alloc);
-    let mut narrow = Narrow { room: 5 };
+    let mut out = Stream::new(Vec::new(alloc));
+    let mut narrow = Stream::new(Narrow { room: 5 });
     assert!(rt; status_of(alloc, "x$", &mut out, &mut narrow)? == 3);
-    let mut narrow = Narrow { room: 5 };
+    assert!(rt; narrow.has_failed());
+    let mut narrow = Stream::new(Narrow { room: 5 });
     assert!(rt; status_of(alloc, "plan 1$", &mut out, &mut narrow)? == 0);
-    let mut shut = Narrow { room: 0 };
-    assert!(rt; status_of(alloc, "plan 1$", &mut shut, &mut Narrow { room: 0 })? == 5);
+    let mut shut = Stream::new(Narrow { room: 0 });
+    let mut mute = Stream::new(Narrow { room: 0 });
+    assert!(rt; status_of(alloc, "plan 1$", &mut shut, &mut mute)? == 5);
     Ok(())
 }
 
@@ -114,15 +119,10 @@ fn a_sentence_that_cannot_be_written_changes_no_status(rt: HostRuntime) -> Resul
     let alloc = rt.alloc();
     let words = words_in(alloc, EXPLAINED)?;
     for room in [0, 40] {
-        let mut out = Vec::new(alloc);
-        let status = status_on(
-            alloc,
-            words.as_slice(),
-            "x$",
-            &mut out,
-            &mut Narrow { room },
-        )?;
-        assert!(rt; status == 3 && out.is_empty(), "{room}");
+        let mut out = Stream::new(Vec::new(alloc));
+        let mut err = Stream::new(Narrow { room });
+        let status = status_on(alloc, words.as_slice(), "x$", &mut out, &mut err)?;
+        assert!(rt; status == 3 && out.writer().is_empty(), "{room}");
     }
     Ok(())
 }
@@ -188,14 +188,14 @@ fn want_of_memory_is_refused_as_such(rt: HostRuntime) -> Result<(), Fail> {
     let alloc = rt.alloc();
     let words = words_in(alloc, CHECK_PLAN)?;
     let refusal = b"debplan: memory: E1 OutOfMemory\n".as_slice();
-    let mut out = Vec::new(alloc);
-    let mut err = Vec::new(alloc);
+    let mut out = Stream::new(Vec::new(alloc));
+    let mut err = Stream::new(Vec::new(alloc));
     let status = run(alloc, words.as_slice(), &mut Exhausted, &mut out, &mut err);
-    assert!(rt; status == 5 && out.is_empty());
-    assert!(rt; err.as_slice() == refusal);
-    let mut err = Vec::new(alloc);
+    assert!(rt; status == 5 && out.writer().is_empty());
+    assert!(rt; err.writer().as_slice() == refusal);
+    let mut err = Stream::new(Vec::new(alloc));
     assert!(rt; refuse_for_memory(&mut err) == 5);
-    assert!(rt; err.as_slice() == refusal);
+    assert!(rt; err.writer().as_slice() == refusal);
     Ok(())
 }
 
@@ -284,10 +284,10 @@ fn an_index_that_cannot_be_read_is_refused_at_its_place_and_counted(
     let alloc = rt.alloc();
     let words = words_in(alloc, CHECK_PLAN)?;
     let mut host = Worn { failures: 0 };
-    let mut out = Vec::new(alloc);
-    let mut err = Vec::new(alloc);
+    let mut out = Stream::new(Vec::new(alloc));
+    let mut err = Stream::new(Vec::new(alloc));
     let status = run(alloc, words.as_slice(), &mut host, &mut out, &mut err);
-    assert!(rt; status == 5 && out.is_empty() && host.failures == 1);
-    assert!(rt; err.as_slice() == b"debplan: index 1: E5 Read\n".as_slice());
+    assert!(rt; status == 5 && out.writer().is_empty() && host.failures == 1);
+    assert!(rt; err.writer().as_slice() == b"debplan: index 1: E5 Read\n".as_slice());
     Ok(())
 }

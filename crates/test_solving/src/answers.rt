@@ -2,7 +2,7 @@
 use crate::replay::is_accepted;
 use crate::texts::clauses_in;
 use clauses::Clauses;
-use search::{Found, search};
+use search::{SearchAnswer, search};
 use std::alloc::{AllocError, Global};
 use std::process::Abort;
 
@@ -65,14 +65,18 @@ fn are_numbers(numbers: &[u32], words: &str) -> bool {
 fn is_wanted(
     alloc: Global,
     given: &Clauses,
-    found: &Found,
+    found: &SearchAnswer,
     wanted: &str,
 ) -> Result<bool, AllocError> {
     let (kind, words) = wanted.split_once(' ').unwrap_or((wanted, ""));
     match found {
-        Found::Selection(numbers) => Ok(kind == "set" && are_numbers(numbers.as_slice(), words)),
-        Found::Limit(limit) => Ok(kind == "limit" && words.parse::<u32>().ok() == Some(*limit)),
-        Found::Refutation(refutation) => {
+        SearchAnswer::Selection(numbers) => Ok(
+            kind == "set" && are_numbers(numbers.as_slice(), words),
+        ),
+        SearchAnswer::Limit(limit) => Ok(
+            kind == "limit" && words.parse::<u32>().ok() == Some(*limit),
+        ),
+        SearchAnswer::Refutation(refutation) => {
             let counts = format!(in alloc;
                 "{} {}",
                 refutation.premises.len(),

@@ -1,6 +1,6 @@
 //! Each public call once, and the example of the README.
 use clauses::Clauses;
-use search::{Found, search};
+use search::{SearchAnswer, search};
 use std::alloc::AllocError;
 
 #[test]
@@ -15,7 +15,7 @@ fn the_readme_example(rt: HostRuntime) -> Result<(), AllocError> {
     given.end_depends(1)?;
     given.push_wish(2)?;
     given.end_wish()?;
-    let Found::Selection(numbers) = search(rt.alloc(), &given, 0)? else {
+    let SearchAnswer::Selection(numbers) = search(rt.alloc(), &given, 0)? else {
         return Err(AllocError);
     };
     assert_eq!(rt; numbers.as_slice(), [1, 2].as_slice());
@@ -36,7 +36,7 @@ fn what_was_put_in_is_there(rt: HostRuntime) -> Result<(), AllocError> {
     assert_eq!(rt; given.len(), 1);
     assert_eq!(rt; given.clause(0), [-4, 5].as_slice());
     assert_eq!(rt; given.clause(1), [].as_slice());
-    assert_eq!(rt; given.unowned(), 0);
+    assert_eq!(rt; given.unowned_count(), 0);
     assert_eq!(rt; given.depends_of(1).until, 1);
     assert_eq!(rt; given.depends_of(2).until, 0);
     assert_eq!(rt; given.wishes(), 1);

@@ -1,7 +1,7 @@
 //! Puzzles that need many conflicts: pigeons in too few holes, and clauses of three literals by a fixed rule.
 use crate::replay::is_accepted;
 use clauses::Clauses;
-use search::{Found, search};
+use search::{SearchAnswer, search};
 use std::alloc::{AllocError, Global};
 
 // The number that says that a pigeon sits in a hole.
@@ -51,7 +51,7 @@ fn pigeons_in(alloc: Global, pigeons: u32, holes: u32) -> Result<Clauses, AllocE
 
 fn is_refuted(alloc: Global, given: &Clauses) -> Result<bool, AllocError> {
     match search(alloc, given, 100_000)? {
-        Found::Refutation(refutation) => is_accepted(alloc, given, &refutation),
+        SearchAnswer::Refutation(refutation) => is_accepted(alloc, given, &refutation),
         _ => Ok(false),
     }
 }
@@ -69,7 +69,7 @@ fn one_pigeon_too_many_is_refuted(rt: HostRuntime) -> Result<(), AllocError> {
 fn as_many_pigeons_as_holes_have_room(rt: HostRuntime) -> Result<(), AllocError> {
     for holes in 1..7 {
         let given = pigeons_in(rt.alloc(), holes, holes)?;
-        let Found::Selection(numbers) = search(rt.alloc(), &given, 100_000)? else {
+        let SearchAnswer::Selection(numbers) = search(rt.alloc(), &given, 100_000)? else {
             return Err(AllocError);
         };
         assert!(rt; numbers.len() >= holes as usize, "{holes} holes");
@@ -118,11 +118,11 @@ fn is_true(numbers: &Vec<u32>, clause: &[i32]) -> bool {
 
 fn is_decided(alloc: Global, given: &Clauses) -> Result<bool, AllocError> {
     match search(alloc, given, 100_000)? {
-        Found::Selection(numbers) => {
+        SearchAnswer::Selection(numbers) => {
             Ok((0..given.len()).all(|place| is_true(&numbers, given.clause(place))))
         }
-        Found::Refutation(refutation) => is_accepted(alloc, given, &refutation),
-        Found::Limit(_) => Ok(false),
+        SearchAnswer::Refutation(refutation) => is_accepted(alloc, given, &refutation),
+        SearchAnswer::Limit(_) => Ok(false),
     }
 }
 

@@ -1,7 +1,7 @@
 //! A checker of refutations that shares nothing with the search: with a line's literals false, each hint's clause in turn
 //! has at most one literal that isn't false, whose negation is false from then on, and the last one has none.
 use clauses::{Clauses, Lists};
-use search::{Line, Refutation};
+use search::{Derivation, DerivedClause};
 use std::alloc::{AllocError, Global};
 
 // The literals of a clause that aren't false.
@@ -31,7 +31,7 @@ fn take(
 }
 
 // Whether a line follows from the clauses before it.
-fn follows(alloc: Global, lists: &Lists<i32>, line: &Line) -> Result<bool, AllocError> {
+fn follows(alloc: Global, lists: &Lists<i32>, line: &DerivedClause) -> Result<bool, AllocError> {
     let mut false_ones = line.literals.as_slice().to_vec(alloc)?;
     let mut is_false = false;
     for hint in &line.hints {
@@ -58,7 +58,11 @@ fn add(lists: &mut Lists<i32>, clause: &[i32]) -> Result<(), AllocError> {
     lists.end()
 }
 
-fn are_lines(alloc: Global, lists: &mut Lists<i32>, lines: &[Line]) -> Result<bool, AllocError> {
+fn are_lines(
+    alloc: Global,
+    lists: &mut Lists<i32>,
+    lines: &[DerivedClause],
+) -> Result<bool, AllocError> {
     for line in lines {
         if !follows(alloc, lists, line)? {
             return Ok(false);
@@ -80,7 +84,7 @@ fn ends_empty(lists: &Lists<i32>) -> bool {
 pub(crate) fn is_accepted(
     alloc: Global,
     given: &Clauses,
-    refutation: &Refutation,
+    refutation: &Derivation,
 ) -> Result<bool, AllocError> {
     let mut lists = Lists::new(alloc);
     for place in &refutation.premises {

@@ -1,7 +1,9 @@
 //! Values of relation fields (Policy 7.1): what they spell, and that a parser refuses what the check refuses. Most values that are
 //! refused are shown by the scenarios. Offsets were counted in the value.
 use crate::shown::is_printed;
-use relation::{Atom, Clause, Form, Op, Provided, parse_atoms, parse_clauses, parse_provides};
+use relation::{
+    Atom, Clause, Op, Provided, RelationForm, parse_atoms, parse_clauses, parse_provides,
+};
 use relation_text::{RelationFault, check};
 use std::alloc::{AllocError, Global};
 
@@ -57,7 +59,7 @@ fn clauses_are_what_commas_part_and_bars_part_their_atoms(rt: HostRuntime) {
     let value = b"python3:any (>= 3.5), ,\n a | b\t(<<\n2 ), c(< 1),d:i386 (= 1:2-3),";
     let clauses = parse_clauses(rt.alloc(), value, ARCH);
     assert!(rt; matches!(&clauses, Ok(clauses) if are_clauses(clauses.as_slice())));
-    assert!(rt; check(Form::Clauses, value).is_ok());
+    assert!(rt; check(RelationForm::Clauses, value).is_ok());
     let none = parse_clauses(rt.alloc(), b" , ,\n,", ARCH);
     assert!(rt; matches!(&none, Ok(clauses) if clauses.is_empty()));
 }
@@ -84,7 +86,12 @@ fn atoms_and_items_are_what_commas_part(rt: HostRuntime) {
 }
 
 // Whether the check refuses the value, and this fault is printed so.
-fn is_checked(alloc: Global, form: Form, value: &[u8], wanted: &str) -> Result<bool, AllocError> {
+fn is_checked(
+    alloc: Global,
+    form: RelationForm,
+    value: &[u8],
+    wanted: &str,
+) -> Result<bool, AllocError> {
     match check(form, value) {
         Ok(()) => Ok(false),
         Err(fault) => is_printed(alloc, &fault, wanted),
@@ -92,11 +99,16 @@ fn is_checked(alloc: Global, form: Form, value: &[u8], wanted: &str) -> Result<b
 }
 
 // Whether the parser refuses the value, and this fault is printed so.
-fn is_unparsed(alloc: Global, form: Form, value: &[u8], wanted: &str) -> Result<bool, AllocError> {
+fn is_unparsed(
+    alloc: Global,
+    form: RelationForm,
+    value: &[u8],
+    wanted: &str,
+) -> Result<bool, AllocError> {
     let refused = match form {
-        Form::Clauses => parse_clauses(alloc, value, ARCH).err(),
-        Form::Atoms => parse_atoms(alloc, value, ARCH).err(),
-        Form::Provides => parse_provides(alloc, value, ARCH).err(),
+        RelationForm::Clauses => parse_clauses(alloc, value, ARCH).err(),
+        RelationForm::Atoms => parse_atoms(alloc, value, ARCH).err(),
+        RelationForm::Provides => parse_provides(alloc, value, ARCH).err(),
     };
     match refused {
         Some(error) => is_printed(alloc, &error, wanted),
@@ -104,29 +116,48 @@ fn is_unparsed(alloc: Global, form: Form, value: &[u8], wanted: &str) -> Result<
     }
 }
 
-fn is_refused(alloc: Global, form: Form, value: &[u8], wanted: &str) -> Result<bool, AllocError> {
+fn is_refused(
+    alloc: Global,
+    form: RelationForm,
+    value: &[u8],
+    wanted: &str,
+) -> Result<bool, AllocError> {
     Ok(is_checked(alloc, form, value, wanted)? && is_unparsed(alloc, form, value, wanted)?)
 }
 
 #[test]
 fn a_value_is_refused_at_its_least_offset(rt: HostRuntime) -> Result<(), AllocError> {
     let alloc = rt.alloc();
-    assert!(rt; is_refused(alloc, Form::Clauses, b"a | , b", "E8 BadName 4")?);
-    assert!(rt; is_refused(alloc, Form::Clauses, b"a_, b (= -)", "E7 BadRelation 1")?);
-    assert!(rt; is_refused(alloc, Form::Atoms, b"a | b", "E7 BadRelation 2")?);
-    assert!(rt; is_refused(alloc, Form::Provides, b"a (>= 1)", "E7 BadRelation 3")?);
+    assert!(rt; is_refused(alloc, RelationForm::Clauses, b"a | , b", "E8 BadName 4")?);
+    assert!(rt;
+        is_refused(
+            alloc,
+            RelationForm::Clauses,
+            b"a_, b (= -)",
+            "E7 BadRelation 1"
+        )?
+    );
+    assert!(rt; is_refused(alloc, RelationForm::Atoms, b"a | b", "E7 BadRelation 2")?);
+    assert!(rt;
+        is_refused(
+            alloc,
+            RelationForm::Provides,
+            b"a (>= 1)",
+            "E7 BadRelation 3"
+        )?
+    );
     // At the end of a value white space is passed over, and a field ends before it.
-    assert!(rt; is_refused(alloc, Form::Clauses, b"a |  ", "E8 BadName 5")?);
-    assert!(rt; is_refused(alloc, Form::Clauses, b"\0", "E8 BadName 0")?);
+    assert!(rt; is_refused(alloc, RelationForm::Clauses, b"a |  ", "E8 BadName 5")?);
+    assert!(rt; is_refused(alloc, RelationForm::Clauses, b"\0", "E8 BadName 0")?);
     Ok(())
 }
 
 #[test]
 fn the_readme_example_of_relation_text(rt: HostRuntime) {
     let clauses = b"python3:any (>= 3.5), a | b (<< 2), c (> 1)";
-    assert!(rt; check(Form::Clauses, clauses).is_ok());
+    assert!(rt; check(RelationForm::Clauses, clauses).is_ok());
     let fault = RelationFault::BadRelation(6);
-    assert!(rt; check(Form::Provides, b"a, b (>= 1)") == Err(fault));
+    assert!(rt; check(RelationForm::Provides, b"a, b (>= 1)") == Err(fault));
 }
 
 // So many atoms of one byte, each with the separator behind it, and then the end.
@@ -145,7 +176,7 @@ fn write_many(
 
 // Whether the clauses are accepted, or refused as is printed.
 fn is_answer(alloc: Global, value: &[u8], wanted: &str) -> Result<bool, AllocError> {
-    match check(Form::Clauses, value) {
+    match check(RelationForm::Clauses, value) {
         Ok(()) => Ok(wanted == "accepted"),
         Err(fault) => is_printed(alloc, &fault, wanted),
     }

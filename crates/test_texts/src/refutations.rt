@@ -2,9 +2,9 @@
 //! to the lines that the last one needs. The format is this project's own; most of what is refused is shown by the scenarios. Lines
 //! were counted, and hints followed, by hand.
 use crate::shown::spelled;
-use explain::needed_lines;
 use refutation_text::{read_refutation, write_refutation};
 use std::alloc::{AllocError, Global};
+use trim::needed_lines;
 
 fn is_written(alloc: Global, text: &[u8]) -> Result<bool, AllocError> {
     match read_refutation(alloc, text) {

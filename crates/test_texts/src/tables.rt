@@ -1,5 +1,5 @@
 //! Values that the tables of an `Acceptor` accept, and values that only the exact test does, by hand from Policy 5.6.12 and 7.1.
-use relation_text::{Acceptor, Form};
+use relation_text::{Acceptor, RelationForm};
 use std::alloc::AllocError;
 use std::process::Abort;
 
@@ -11,9 +11,9 @@ fn assert_accepted<R: Abort + AllocGlobal>(
 ) -> Result<(), AllocError> {
     let acceptor = Acceptor::new(rt.alloc())?;
     for value in values.lines() {
-        let is_accepted = acceptor.accepts(Form::Clauses, value.as_bytes());
+        let is_accepted = acceptor.accepts(RelationForm::Clauses, value.as_bytes());
         assert!(rt; is_accepted == by_tables, "{value}");
-        let answer = acceptor.check_by(Form::Clauses, value.as_bytes());
+        let answer = acceptor.check_by(RelationForm::Clauses, value.as_bytes());
         assert!(rt; answer.is_ok(), "{value}");
     }
     Ok(())

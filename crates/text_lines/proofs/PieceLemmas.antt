@@ -7,16 +7,16 @@ use Rattle.text_lines.specs.Piece.{IsPiece}
 
 -- where the first newline stands, the piece ends
 pub IsPiece-at : (bytes : List ℕ) (place : ℕ) → IsFirstByte (is_byte 10) bytes (Some place) → IsPiece bytes (take place bytes) true
-IsPiece-at bytes place found =
-    let fits : place < length bytes = found.0.high in
-    let here : get_or bytes place 0 ≡ 10 = eqb-true (get_or bytes place 0) 10 found.1 in
+IsPiece-at bytes place first_newline =
+    let fits : place < length bytes = first_newline.0.high in
+    let here : get_or bytes place 0 ≡ 10 = eqb-true (get_or bytes place 0) 10 first_newline.1 in
     let size : length (take place bytes) ≡ place = length-take-le place bytes (omega (arith, fits)) in
     let joined : bytes ≡ take place bytes ++ drop place bytes = sym (take-append-drop place bytes) in
     let newline : drop place bytes ≡ 10 ∷ drop (place + 1) bytes = drop_more bytes place 0 fits ∙ ap (λ b. b ∷ drop (place + 1) bytes) here in
     record {
       plain = λ k d low is.
           let lower : k < place = omega (arith, low, size) in
-          found.0.before k (omega arith) lower (eq-eqb (get_or bytes k 0) 10 (get_or_default bytes k 0 d (omega (arith, lower, fits)) ∙ sym (get_or-take place bytes k d lower) ∙ is));
+          first_newline.0.before k (omega arith) lower (eq-eqb (get_or bytes k 0) 10 (get_or_default bytes k 0 d (omega (arith, lower, fits)) ∙ sym (get_or-take place bytes k d lower) ∙ is));
       whole = λ _. joined ∙ ap (λ rest. take place bytes ++ rest) newline ∙ ap (λ n. take place bytes ++ 10 ∷ drop (n + 1) bytes) (sym size);
       all = joined ∙ ap (λ n. take place bytes ++ drop n bytes) (sym size);
       open_end = λ is. absurd (true≢false is);

@@ -6,7 +6,7 @@ ghost use Rattle.text_lines.specs.declared.error.HearError.TheVariants as hear_e
 
 use crate::block::Block;
 use crate::error::HearError;
-use crate::piece::{Step, go_on};
+use crate::piece::{LineState, go_on};
 use stanza::{ReadFailed, Source};
 use std::alloc::{AllocError, Global};
 
@@ -32,7 +32,8 @@ pub enum Heard {
 
 // What is heard at the end of a text, behind whose last newline these bytes stand.
 fn at_end(line: Vec<u8>) -> Heard
-    ensures { (most : ℕ) (old new : Option (List ℕ)) → Consumes old new line.items → IsAtEnd new → HasNoNewline line.items
+    ensures { (most : ℕ) (old new : Option (List ℕ)) → Consumes old new line.items → IsAtEnd new
+        → HasNoNewline line.items
         → length line.items ≤ most → HasHeard most old new result }
 {
     if line.is_empty() {
@@ -56,13 +57,16 @@ impl<T: Source + Drop> Lines<T> {
 impl<T: Source> Lines<T> {
     // Reads once where no byte waits, and answers whether one waits now: none at the end of the text alone.
     fn read_on(&mut self) -> Result<bool, ReadFailed>
-        ensures left { IfOk result (λ _. Consumes (left_of T.left self.old) (left_of T.left self.new) []) }
+        ensures left { IfOk result
+            (λ _. Consumes (left_of T.left self.old) (left_of T.left self.new) []) }
         ensures some { IfOk result (λ some. some ≡ true → 0 < length self.new.block) }
         ensures end { IfOk result (λ some. some ≡ false → IsAtEnd (left_of T.left self.new)) }
         ensures failed { IfErr result (λ _. left_of T.left self.old ≡ None) }
-        ensures sure { T.is_sure self.old.text ≡ true → IsOk result × (T.is_sure self.new.text ≡ true) }
+        ensures sure { T.is_sure self.old.text ≡ true → IsOk result
+            × (T.is_sure self.new.text ≡ true) }
         ensures count { IfOk result (λ _. T.faults self.new.text ≡ T.faults self.old.text) }
-        ensures counted { IfErr result (λ _. T.faults self.new.text ≡ min (T.faults self.old.text + 1) (2 ^ 64 - 1)) }
+        ensures counted { IfErr result
+            (λ _. T.faults self.new.text ≡ min (T.faults self.old.text + 1) (2 ^ 64 - 1)) }
     {
         if !self.block.is_empty() {
             return Ok(true);
@@ -75,18 +79,23 @@ impl<T: Source> Lines<T> {
     /// that a line is handed on as soon as it is there, and no more is held than that many bytes and a block. Of a line that is too
     /// long, and of one in which an error comes, what was read is gone. Linear in the line.
     pub fn next(&mut self, alloc: Global, most: usize) -> Result<Heard, HearError>
-        ensures heard { IfOk result (λ heard. HasHeard most (left_of T.left self.old) (left_of T.left self.new) heard) }
-        ensures known { (left : List ℕ) → left_of T.left self.old ≡ Some left → IfErr result (λ e. e ≡ hear_error.OutOfMemory) }
-        ensures sure { T.is_sure self.old.text ≡ true → (T.is_sure self.new.text ≡ true) × IfErr result (λ e. e ≡ hear_error.OutOfMemory) }
+        ensures heard { IfOk result
+            (λ heard. HasHeard most (left_of T.left self.old) (left_of T.left self.new) heard) }
+        ensures known { (left : List ℕ) → left_of T.left self.old ≡ Some left
+            → IfErr result (λ e. e ≡ hear_error.OutOfMemory) }
+        ensures sure { T.is_sure self.old.text ≡ true → (T.is_sure self.new.text ≡ true)
+            × IfErr result (λ e. e ≡ hear_error.OutOfMemory) }
         ensures count { IfOk result (λ _. T.faults self.new.text ≡ T.faults self.old.text) }
-        ensures counted { IfErr result (λ e. e ≡ hear_error.Unreadable → T.faults self.new.text ≡ min (T.faults self.old.text + 1) (2 ^ 64 - 1)) }
+        ensures counted { IfErr result
+            (λ e. e ≡ hear_error.Unreadable → T.faults self.new.text
+            ≡ min (T.faults self.old.text + 1) (2 ^ 64 - 1)) }
     {
         let mut line = Vec::new(alloc);
         while self.read_on()? {
             match go_on(&mut line, &mut self.block, most)? {
-                Step::Whole => return Ok(Heard::Line(line)),
-                Step::More => {}
-                Step::TooLong => return Ok(Heard::TooLong),
+                LineState::Whole => return Ok(Heard::Line(line)),
+                LineState::More => {}
+                LineState::TooLong => return Ok(Heard::TooLong),
             }
         }
         Ok(at_end(line))

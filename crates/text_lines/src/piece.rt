@@ -10,7 +10,7 @@ const NEWLINE: u8 = b'\n';
 
 /// What a line has become.
 #[derive(Clone, Copy, Drop)]
-pub enum Step {
+pub enum LineState {
     /// It is whole: its newline was found.
     Whole,
     /// It goes on.
@@ -30,22 +30,23 @@ fn piece_of(bytes: &[u8]) -> (&[u8], bool)
 }
 
 /// Adds the bytes that wait to a line, up to the first newline, unless it would have more than `most`.
-pub fn go_on(line: &mut Vec<u8>, block: &mut Block, most: usize) -> Result<Step, AllocError>
+pub fn go_on(line: &mut Vec<u8>, block: &mut Block, most: usize) -> Result<LineState, AllocError>
     requires short { length line.old.items ≤ most }
     requires some { 0 < length block.old }
-    ensures { IfOk result (λ step. Goes most line.old.items line.new.items block.old block.new step) }
+    ensures { IfOk result
+        (λ step. Goes most line.old.items line.new.items block.old block.new step) }
 {
     let (piece, is_whole) = piece_of(block.waiting());
     let count = piece.len();
     if count > most - line.len() {
         block.go_past(count);
-        return Ok(Step::TooLong);
+        return Ok(LineState::TooLong);
     }
     line.extend_from_slice(piece)?;
     if is_whole {
         block.go_past(count + 1);
-        return Ok(Step::Whole);
+        return Ok(LineState::Whole);
     }
     block.go_past(count);
-    Ok(Step::More)
+    Ok(LineState::More)
 }

@@ -39,7 +39,12 @@ impl<'p, 'a> Admitted<'p, 'a> {
         candidates: Candidates<'a>,
     ) -> Result<Admitted<'p, 'a>, AllocError>
         ensures { IfOk result (λ admitted.
-            admitted ≡ record { pairs = pairs.entry; starts = starts.entry; candidates = candidates.entry }) }
+            admitted ≡ record {
+              pairs = pairs.entry;
+              starts = starts.entry;
+              candidates =
+                  candidates.entry;
+            }) }
     {
         let providers = Providers::of_pairs(alloc, &pairs)?;
         Ok(Admitted {

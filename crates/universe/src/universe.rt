@@ -43,7 +43,7 @@ impl<'p, 'a> Universe<'p, 'a> {
     }
 
     // What is admitted.
-    fn admitted(&self) -> &Admitted<'p, 'a>
+    fn parts(&self) -> &Admitted<'p, 'a>
         ensures { asked_of result.now self.now.goals ≡ self.now }
     {
         self.admitted.as_ref()
@@ -54,7 +54,7 @@ impl<'p, 'a> Universe<'p, 'a> {
         ensures items { result.now ≡ self.now.pairs }
         ensures ascending { IsStrictlySortedBy pair_cmp self.now.pairs }
     {
-        self.admitted().pairs().as_slice()
+        self.parts().pairs().as_slice()
     }
 
     /// The goals in order: the goal at place 0 has the number 1.
@@ -68,7 +68,7 @@ impl<'p, 'a> Universe<'p, 'a> {
     pub fn starts(&self) -> &[Start<'a>]
         ensures { result.now ≡ self.now.starts }
     {
-        self.admitted().starts().as_slice()
+        self.parts().starts().as_slice()
     }
 
     /// The candidates in the order of their names, one for each name that has one.
@@ -76,7 +76,7 @@ impl<'p, 'a> Universe<'p, 'a> {
         ensures items { result.now ≡ self.now.candidates }
         ensures ascending { IsStrictlySortedBy candidate_cmp self.now.candidates }
     {
-        self.admitted().candidates().as_slice()
+        self.parts().candidates().as_slice()
     }
 
     /// The pair of this number, counted from 1.
@@ -93,7 +93,7 @@ impl<'p, 'a> Universe<'p, 'a> {
     {
         match self.pair(number) {
             None => None,
-            Some(pair) => pair.listed(),
+            Some(pair) => pair.index_entry(),
         }
     }
 
@@ -110,7 +110,7 @@ impl<'p, 'a> Universe<'p, 'a> {
     pub fn providers(&self) -> &Providers<'a>
         ensures { result.now ≡ packages_of self.now.pairs }
     {
-        self.admitted().providers()
+        self.parts().providers()
     }
 
     /// The number of the pair of this version of the name, counted from 1, if it is admitted. A binary search among the
@@ -118,14 +118,14 @@ impl<'p, 'a> Universe<'p, 'a> {
     pub fn number_of(&self, name: &[u8], version: &Version<'_>) -> Option<usize>
         ensures { result ≡ number_among self.now.pairs name.now version.now }
     {
-        self.admitted().pairs().number_of(name, version)
+        self.parts().pairs().number_of(name, version)
     }
 
     /// What the start says of the name, if it knows it. Linear in the name alone.
     pub fn start(&self, name: &[u8]) -> Option<&Start<'a>>
         ensures { option_copied result ≡ start_in self.now name.now }
     {
-        self.admitted().starts().of(name)
+        self.parts().starts().of(name)
     }
 
     /// The stanza of this version of the name, if the pair is admitted and in an index. A binary search among the
@@ -133,14 +133,14 @@ impl<'p, 'a> Universe<'p, 'a> {
     pub fn listed_of(&self, name: &[u8], version: &Version<'_>) -> Option<&'p IndexEntry<'a>>
         ensures { option_copied result ≡ listed_of self.now name.now version.now }
     {
-        self.admitted().pairs().listed_of(name, version)
+        self.parts().pairs().listed_of(name, version)
     }
 
     /// The candidate's version, if the name has one. A binary search among the candidates.
     pub fn candidate(&self, name: &[u8]) -> Option<&Version<'a>>
         ensures { option_copied result ≡ candidate_of self.now name.now }
     {
-        match self.admitted().candidates().of(name) {
+        match self.parts().candidates().of(name) {
             None => None,
             Some(candidate) => Some(candidate.version()),
         }

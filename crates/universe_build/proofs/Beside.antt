@@ -14,7 +14,7 @@ use Rattle.rules.specs.Universe.{Candidate, IsAdmitted, IsKeptCandidate, IsKeptT
 use Rattle.rules.specs.VersionOrderLaws.{SameVersion-symm, SameVersion-trans}
 use Rattle.rules.specs.declared.goal.Goal.{Goal}
 use Rattle.rules.specs.declared.goal.GoalLine.{GoalLine}
-use Rattle.candidates.specs.Names.{AreNames, Names}
+use Rattle.candidates.specs.Names.{AreNames, NameTable}
 use Rattle.universe.specs.Admitted.{Admitted, asked_of}
 use Rattle.universe_parts.specs.PairLaws.{is_of-parts}
 use Rattle.universe_build.specs.Build.{first_unknown, goals_of, inputs_of, request_of}
@@ -38,10 +38,10 @@ candidate inputs other name version priority is = record {
       (eligible (record inputs { request = other }) inputs.request name beside beside_priority may);
 }
 
-kept : (inputs : Inputs) (other : Request) (found : Candidate) → IsKeptCandidate inputs found
-    → IsKeptCandidate (record inputs { request = other }) found
+kept : (inputs : Inputs) (other : Request) (own : Candidate) → IsKeptCandidate inputs own
+    → IsKeptCandidate (record inputs { request = other }) own
 unfolding IsKeptCandidate IsKeptText
-kept inputs other found is = ((is.0.0, candidate inputs other found.name found.version is.0.0 is.0.1), is.1)
+kept inputs other own is = ((is.0.0, candidate inputs other own.name own.version is.0.0 is.0.1), is.1)
 
 -- a version that a goal of the lines asks for is that of a pair
 at_line : (pairs : List Pair) (lines : List GoalLine) (asked : GoalLine) → Contains lines asked → are_among pairs lines ≡ true
@@ -131,10 +131,10 @@ of_covered start indices prefs lines all admitted are is = record {
     bare = inputs_of start indices prefs (request_of [] all)
 
 -- what is unknown among the names of a listing is unknown among the start and the indices
-pub unknown_among : (start : List Record) (indices : List Index) (prefs : Preferences) (listing : Listing) (names : Names) → names ≡ listing.names
-    → IsListing start indices prefs listing → (lines goals : List GoalLine) → lines ≡ goals → (found : Option ℕ)
-    → found ≡ first_unknown names.known names.ordered lines → first_unknown start (all_listed indices) goals ≡ found
-unknown_among start indices prefs listing names same is lines goals are found known =
+pub unknown_among : (start : List Record) (indices : List Index) (prefs : Preferences) (listing : Listing) (names : NameTable) → names ≡ listing.names
+    → IsListing start indices prefs listing → (lines goals : List GoalLine) → lines ≡ goals → (line : Option ℕ)
+    → line ≡ first_unknown names.known names.ordered lines → first_unknown start (all_listed indices) goals ≡ line
+unknown_among start indices prefs listing names same is lines goals are line known =
     let of : AreNames start indices names = subst (AreNames start indices) (sym same) is.names in
-    subst (λ (asked : List GoalLine). first_unknown start (all_listed indices) asked ≡ found) are
+    subst (λ (asked : List GoalLine). first_unknown start (all_listed indices) asked ≡ line) are
     (sym (first_unknown-ordered start names.known (all_listed indices) names.ordered of.known of.ordered lines) ∙ sym known)

@@ -22,7 +22,7 @@ use Rattle.rules.specs.VersionOrderLaws.{SameVersion-refl, SameVersion-symm, Sam
 use Rattle.candidates.specs.Candidates.{IsCandidateOf}
 use Rattle.candidates.specs.Eligible.{AreEligibleOf, IsOffer}
 use Rattle.candidates.specs.Inputs.{inputs_of}
-use Rattle.candidates.specs.Names.{AreNames, Names, OfName, part_of}
+use Rattle.candidates.specs.Names.{AreNames, NameTable, OfName, part_of}
 use Rattle.candidates.specs.Offer.{Offer}
 use Rattle.candidates.specs.Recorded.{is_held, stands_as}
 use Rattle.candidates.specs.Stanza.{has_stanza_name, stanza_of}
@@ -44,20 +44,20 @@ not_is true is = absurd (let e : false ≡ true = is in cc)
 
 -- the pair of a record that stands
 abbrev pub pair_at : List IndexPackage → Record → Pair
-pair_at listed found = record { pkg = pkg_of found; listed = stanza_of listed found.name found.version }
+pair_at listed entry = record { pkg = pkg_of entry; listed = stanza_of listed entry.name entry.version }
 
-standing_pair-from : (listed : List IndexPackage) (found : Record) → stands found ≡ true → standing_pair listed found ≡ Some (pair_at listed found)
-standing_pair-from listed found stood = ap (λ (b : Bool).
-    if b then Some (record { pkg = pkg_of found; listed = if b then stanza_of listed found.name found.version else None }) else None) stood
+standing_pair-from : (listed : List IndexPackage) (entry : Record) → stands entry ≡ true → standing_pair listed entry ≡ Some (pair_at listed entry)
+standing_pair-from listed entry stood = ap (λ (b : Bool).
+    if b then Some (record { pkg = pkg_of entry; listed = if b then stanza_of listed entry.name entry.version else None }) else None) stood
 
-pub standing_pair-is : (listed : List IndexPackage) (found : Record) (pair : Pair) → standing_pair listed found ≡ Some pair
-    → (stands found ≡ true) × (pair_at listed found ≡ pair)
-standing_pair-is listed found pair is = at (stands found) refl is
+pub standing_pair-is : (listed : List IndexPackage) (entry : Record) (pair : Pair) → standing_pair listed entry ≡ Some pair
+    → (stands entry ≡ true) × (pair_at listed entry ≡ pair)
+standing_pair-is listed entry pair is = at (stands entry) refl is
   where
-    at : (b : Bool) → stands found ≡ b
-        → (if b then Some (record { pkg = pkg_of found; listed = if b then stanza_of listed found.name found.version else None }) else None) ≡ Some pair
-        → (stands found ≡ true) × (pair_at listed found ≡ pair)
-    at true stood whole = (stood, same_Some (pair_at listed found) pair whole)
+    at : (b : Bool) → stands entry ≡ b
+        → (if b then Some (record { pkg = pkg_of entry; listed = if b then stanza_of listed entry.name entry.version else None }) else None) ≡ Some pair
+        → (stands entry ≡ true) × (pair_at listed entry ≡ pair)
+    at true stood whole = (stood, same_Some (pair_at listed entry) pair whole)
     at false stood whole = absurd (let e : None ≡ Some pair = whole in cc)
 
 -- a version that may be chosen has a package that counts
@@ -70,7 +70,7 @@ eligible_counting inputs name version priority may = at (counting_package inputs
     at None has = absurd has
     at (Some pkg) has = refl
 
-module _ (db : List Record) (indices : List Index) (prefs : Preferences) (request : Request) (names : Names) (distinct : HasDistinctNames db)
+module _ (db : List Record) (indices : List Index) (prefs : Preferences) (request : Request) (names : NameTable) (distinct : HasDistinctNames db)
     (are : AreNames db indices names) (name : List ℕ) where
   abbrev inputs : Inputs
   inputs = inputs_of db indices prefs request
@@ -79,45 +79,45 @@ module _ (db : List Record) (indices : List Index) (prefs : Preferences) (reques
   own = part_of names name
 
   -- a record of the name is a record of the start
-  known_own : (found : Record) → Contains own.known found → Contains db found × (found.name ≡ name)
-  known_own found within =
-      let kept = Contains-filter (is_named name) names.known found within in
-      (known_within db names.known are.known found kept.0, bytes_eq-true found.name name kept.1)
+  known_own : (item : Record) → Contains own.known item → Contains db item × (item.name ≡ name)
+  known_own item within =
+      let kept = Contains-filter (is_named name) names.known item within in
+      (known_within db names.known are.known item kept.0, bytes_eq-true item.name name kept.1)
 
-  own_known : (found : Record) → Contains db found → found.name ≡ name → Contains own.known found
-  own_known found within named = Contains-filter_intro (is_named name) names.known found
-      (within_known db names.known distinct are.known found within) (bytes_eq-same found.name name named)
+  own_known : (item : Record) → Contains db item → item.name ≡ name → Contains own.known item
+  own_known item within named = Contains-filter_intro (is_named name) names.known item
+      (within_known db names.known distinct are.known item within) (bytes_eq-same item.name name named)
 
   found_own : find (is_named name) own.known ≡ find (is_named name) db
-  found_own = find-within (is_named name) (is_named name) (λ found passes. passes) names.known ∙ are.known.same name
+  found_own = find-within (is_named name) (is_named name) (λ item passes. passes) names.known ∙ are.known.same name
 
   same_stands : (version : List ℕ) → stands_as own.known name version ≡ stands_as db name version
   same_stands version = ap (λ (o : Option Record). option_map_or (stands_in version) o false) found_own
 
   same_held : is_held own.known name ≡ is_held db name
-  same_held = ap (λ (o : Option Record). option_map_or (λ (found : Record). is_hold found.want) o false) found_own
+  same_held = ap (λ (o : Option Record). option_map_or (λ (item : Record). is_hold item.want) o false) found_own
 
   -- a stanza of the name is the earliest of its version
-  ordered_own : (found : IndexPackage) → Contains own.ordered found → (found.pkg.name ≡ name)
-      × ((version : List ℕ) → IsOf name version found.pkg → index_package indices name version ≡ Some found)
-  ordered_own found within =
-      let kept = Contains-filter (has_stanza_name name) names.ordered found within in (
-        bytes_eq-true found.pkg.name name kept.1,
-        λ version of. found_ordered (all_listed indices) names.ordered are.ordered found kept.0 name version of,
+  ordered_own : (item : IndexPackage) → Contains own.ordered item → (item.pkg.name ≡ name)
+      × ((version : List ℕ) → IsOf name version item.pkg → index_package indices name version ≡ Some item)
+  ordered_own item within =
+      let kept = Contains-filter (has_stanza_name name) names.ordered item within in (
+        bytes_eq-true item.pkg.name name kept.1,
+        λ version of. found_ordered (all_listed indices) names.ordered are.ordered item kept.0 name version of,
       )
 
-  own_ordered : (version : List ℕ) (found : IndexPackage) → index_package indices name version ≡ Some found
-      → Contains own.ordered found × IsOf name version found.pkg
-  own_ordered version found is =
-      let there = ordered_found (all_listed indices) names.ordered are.ordered name version found is in (
-        Contains-filter_intro (has_stanza_name name) names.ordered found there.0 (bytes_eq-same found.pkg.name name there.1.0),
+  own_ordered : (version : List ℕ) (item : IndexPackage) → index_package indices name version ≡ Some item
+      → Contains own.ordered item × IsOf name version item.pkg
+  own_ordered version item is =
+      let there = ordered_found (all_listed indices) names.ordered are.ordered name version item is in (
+        Contains-filter_intro (has_stanza_name name) names.ordered item there.0 (bytes_eq-same item.pkg.name name there.1.0),
         there.1,
       )
 
   -- the stanza of a version is found among those of the name
   stanza_own : (version : List ℕ) → stanza_of own.ordered name version ≡ index_package indices name version
-  stanza_own version = find-within (λ (found : IndexPackage). is_of name version found.pkg) (has_stanza_name name)
-      (λ found passes. (and_parts (bytes_eq found.pkg.name name) (same_version found.pkg.version version) passes).0) names.ordered
+  stanza_own version = find-within (λ (item : IndexPackage). is_of name version item.pkg) (has_stanza_name name)
+      (λ item passes. (and_parts (bytes_eq item.pkg.name name) (same_version item.pkg.version version) passes).0) names.ordered
       ∙ are.ordered.earliest name version
 
   -- where the version doesn't stand, the package of an index counts
@@ -140,19 +140,19 @@ module _ (db : List Record) (indices : List Index) (prefs : Preferences) (reques
     made = chosen_pairs own candidate versions asked
 
     abbrev wanted : IndexPackage → Bool
-    wanted found = is_wanted candidate versions asked found
+    wanted item = is_wanted candidate versions asked item
 
     -- where a pair comes from: a record that stands
     abbrev IsStanding : Pair → Type 0
-    IsStanding pair = (found : Record) × Contains db found × (found.name ≡ name) × (stands found ≡ true) × (pair_at own.ordered found ≡ pair)
+    IsStanding pair = (item : Record) × Contains db item × (item.name ≡ name) × (stands item ≡ true) × (pair_at own.ordered item ≡ pair)
 
     -- or a stanza of the name that is free and wanted
     abbrev IsListed : Pair → Type 0
-    IsListed pair = (found : IndexPackage) × Contains own.ordered found × (stands_as db name found.pkg.version ≡ false)
-        × (is_held db name ≡ false) × (wanted found ≡ true) × (listed_pair found ≡ pair)
+    IsListed pair = (item : IndexPackage) × Contains own.ordered item × (stands_as db name item.pkg.version ≡ false)
+        × (is_held db name ≡ false) × (wanted item ≡ true) × (listed_pair item ≡ pair)
 
     chosen : IndexPackage → Bool
-    chosen found = is_chosen own.known candidate versions asked found
+    chosen item = is_chosen own.known candidate versions asked item
 
     made_from : (pair : Pair) → Contains made pair → IsStanding pair ⊎ IsListed pair
     made_from pair within = elim (Contains-append_cases (standing_pairs own.ordered own.known)
@@ -179,131 +179,131 @@ module _ (db : List Record) (indices : List Index) (prefs : Preferences) (reques
               )
         ]
 
-    standing_made : (found : Record) → Contains db found → found.name ≡ name → stands found ≡ true → Contains made (pair_at own.ordered found)
-    standing_made found within named stood = Contains-append_left (standing_pairs own.ordered own.known)
-        (listed_pairs own.known own.ordered candidate versions asked) (pair_at own.ordered found)
-        (Contains-filter_map_intro (standing_pair own.ordered) own.known found (pair_at own.ordered found)
-        (own_known found within named) (standing_pair-from own.ordered found stood))
+    standing_made : (item : Record) → Contains db item → item.name ≡ name → stands item ≡ true → Contains made (pair_at own.ordered item)
+    standing_made item within named stood = Contains-append_left (standing_pairs own.ordered own.known)
+        (listed_pairs own.known own.ordered candidate versions asked) (pair_at own.ordered item)
+        (Contains-filter_map_intro (standing_pair own.ordered) own.known item (pair_at own.ordered item)
+        (own_known item within named) (standing_pair-from own.ordered item stood))
 
-    listed_made : (found : IndexPackage) → Contains own.ordered found → stands_as db name found.pkg.version ≡ false
-        → is_held db name ≡ false → wanted found ≡ true → Contains made (listed_pair found)
-    listed_made found within stood held wants =
-        let named : found.pkg.name ≡ name = (ordered_own found within).0 in
+    listed_made : (item : IndexPackage) → Contains own.ordered item → stands_as db name item.pkg.version ≡ false
+        → is_held db name ≡ false → wanted item ≡ true → Contains made (listed_pair item)
+    listed_made item within stood held wants =
+        let named : item.pkg.name ≡ name = (ordered_own item within).0 in
         Contains-append_right (standing_pairs own.ordered own.known)
-        (listed_pairs own.known own.ordered candidate versions asked) (listed_pair found)
-        (Contains-map_intro listed_pair (filter (is_chosen own.known candidate versions asked) own.ordered) found
-        (Contains-filter_intro (is_chosen own.known candidate versions asked) own.ordered found within
-        (and_from (is_free own.known found) (wanted found)
-        (and_from (not (stands_as own.known found.pkg.name found.pkg.version)) (not (is_held own.known found.pkg.name))
-        (not_from (stands_as own.known found.pkg.name found.pkg.version)
-        (ap (λ (n : List ℕ). stands_as own.known n found.pkg.version) named ∙ same_stands found.pkg.version ∙ stood))
-        (not_from (is_held own.known found.pkg.name) (ap (is_held own.known) named ∙ same_held ∙ held))) wants)))
+        (listed_pairs own.known own.ordered candidate versions asked) (listed_pair item)
+        (Contains-map_intro listed_pair (filter (is_chosen own.known candidate versions asked) own.ordered) item
+        (Contains-filter_intro (is_chosen own.known candidate versions asked) own.ordered item within
+        (and_from (is_free own.known item) (wanted item)
+        (and_from (not (stands_as own.known item.pkg.name item.pkg.version)) (not (is_held own.known item.pkg.name))
+        (not_from (stands_as own.known item.pkg.name item.pkg.version)
+        (ap (λ (n : List ℕ). stands_as own.known n item.pkg.version) named ∙ same_stands item.pkg.version ∙ stood))
+        (not_from (is_held own.known item.pkg.name) (ap (is_held own.known) named ∙ same_held ∙ held))) wants)))
 
     counts : (pair : Pair) → IsStanding pair ⊎ IsListed pair → counting_package inputs pair.pkg.name pair.pkg.version ≡ Some pair.pkg
-    counts pair (inl (found, within, named, stood, same)) =
+    counts pair (inl (item, within, named, stood, same)) =
         subst (λ (p : Pair). counting_package inputs p.pkg.name p.pkg.version ≡ Some p.pkg) same
         (ap (λ (o : Option Record). option_or (option_map pkg_of o)
-        (option_map (λ (listed : IndexPackage). listed.pkg) (index_package indices found.name found.version)))
-        (standing_record-one db distinct found.name found.version found within refl stood (SameVersion-refl found.version)))
-    counts pair (inr (found, within, stood, held, wants, same)) =
-        let there = ordered_own found within in
+        (option_map (λ (listed : IndexPackage). listed.pkg) (index_package indices item.name item.version)))
+        (standing_record-one db distinct item.name item.version item within refl stood (SameVersion-refl item.version)))
+    counts pair (inr (item, within, stood, held, wants, same)) =
+        let there = ordered_own item within in
         subst (λ (p : Pair). counting_package inputs p.pkg.name p.pkg.version ≡ Some p.pkg) same
-        (ap (λ (n : List ℕ). counting_package inputs n found.pkg.version) there.0 ∙ counting_listed found.pkg.version stood
-        ∙ ap (option_map (λ (listed : IndexPackage). listed.pkg)) (there.1 found.pkg.version (there.0, SameVersion-refl found.pkg.version)))
+        (ap (λ (n : List ℕ). counting_package inputs n item.pkg.version) there.0 ∙ counting_listed item.pkg.version stood
+        ∙ ap (option_map (λ (listed : IndexPackage). listed.pkg)) (there.1 item.pkg.version (there.0, SameVersion-refl item.pkg.version)))
 
     listed_as : (pair : Pair) → IsStanding pair ⊎ IsListed pair → index_package indices pair.pkg.name pair.pkg.version ≡ pair.listed
-    listed_as pair (inl (found, within, named, stood, same)) =
+    listed_as pair (inl (item, within, named, stood, same)) =
         subst (λ (p : Pair). index_package indices p.pkg.name p.pkg.version ≡ p.listed) same
-        (ap (λ (n : List ℕ). index_package indices n found.version) named ∙ sym (stanza_own found.version)
-        ∙ ap (λ (n : List ℕ). stanza_of own.ordered n found.version) (sym named))
-    listed_as pair (inr (found, within, stood, held, wants, same)) =
-        let there = ordered_own found within in
+        (ap (λ (n : List ℕ). index_package indices n item.version) named ∙ sym (stanza_own item.version)
+        ∙ ap (λ (n : List ℕ). stanza_of own.ordered n item.version) (sym named))
+    listed_as pair (inr (item, within, stood, held, wants, same)) =
+        let there = ordered_own item within in
         subst (λ (p : Pair). index_package indices p.pkg.name p.pkg.version ≡ p.listed) same
-        (ap (λ (n : List ℕ). index_package indices n found.pkg.version) there.0
-        ∙ there.1 found.pkg.version (there.0, SameVersion-refl found.pkg.version))
+        (ap (λ (n : List ℕ). index_package indices n item.pkg.version) there.0
+        ∙ there.1 item.pkg.version (there.0, SameVersion-refl item.pkg.version))
 
     named_as : (pair : Pair) → IsStanding pair ⊎ IsListed pair → pair.pkg.name ≡ name
-    named_as pair (inl (found, within, named, stood, same)) = subst (λ (p : Pair). p.pkg.name ≡ name) same named
-    named_as pair (inr (found, within, stood, held, wants, same)) = subst (λ (p : Pair). p.pkg.name ≡ name) same (ordered_own found within).0
+    named_as pair (inl (item, within, named, stood, same)) = subst (λ (p : Pair). p.pkg.name ≡ name) same named
+    named_as pair (inr (item, within, stood, held, wants, same)) = subst (λ (p : Pair). p.pkg.name ≡ name) same (ordered_own item within).0
 
     -- a made pair of a version
     abbrev IsMade : List ℕ → Type 0
     IsMade version = (pair : Pair) × Contains made pair × IsOf name version pair.pkg
 
-    made_listed : (version : List ℕ) (found : IndexPackage) → Contains own.ordered found → IsOf name version found.pkg
-        → stands_as db name version ≡ false → is_held db name ≡ false → wanted found ≡ true → IsMade version
-    made_listed version found within of stood held wants = (
-      listed_pair found,
-      listed_made found within (stands_as-same db name found.pkg.version version of.1 ∙ stood) held wants,
+    made_listed : (version : List ℕ) (item : IndexPackage) → Contains own.ordered item → IsOf name version item.pkg
+        → stands_as db name version ≡ false → is_held db name ≡ false → wanted item ≡ true → IsMade version
+    made_listed version item within of stood held wants = (
+      listed_pair item,
+      listed_made item within (stands_as-same db name item.pkg.version version of.1 ∙ stood) held wants,
       of,
     )
 
     -- the texts of a version are versions of a stanza alike
-    version_of_stanza : (found : IndexPackage) (offer : Offer) (version : List ℕ) → IsOf name version found.pkg → SameVersion offer.version version
-        → is_version_of found offer ≡ true
-    version_of_stanza found offer version of same = (Equal-is (version_cmp offer.version found.pkg.version)).1
-        (SameVersion-trans offer.version version found.pkg.version same (SameVersion-symm found.pkg.version version of.1))
+    version_of_stanza : (item : IndexPackage) (offer : Offer) (version : List ℕ) → IsOf name version item.pkg → SameVersion offer.version version
+        → is_version_of item offer ≡ true
+    version_of_stanza item offer version of same = (Equal-is (version_cmp offer.version item.pkg.version)).1
+        (SameVersion-trans offer.version version item.pkg.version same (SameVersion-symm item.pkg.version version of.1))
 
-    stanza_of_version : (found : IndexPackage) (offer : Offer) (version : List ℕ) → IsOf name version found.pkg → is_version_of found offer ≡ true
+    stanza_of_version : (item : IndexPackage) (offer : Offer) (version : List ℕ) → IsOf name version item.pkg → is_version_of item offer ≡ true
         → SameVersion offer.version version
-    stanza_of_version found offer version of passes = SameVersion-trans offer.version found.pkg.version version
-        ((Equal-is (version_cmp offer.version found.pkg.version)).0 passes) of.1
+    stanza_of_version item offer version of passes = SameVersion-trans offer.version item.pkg.version version
+        ((Equal-is (version_cmp offer.version item.pkg.version)).0 passes) of.1
 
     -- the stanza of the candidate is wanted
-    wanted_candidate : (version : List ℕ) (priority : ℤ) (found : IndexPackage) → IsOf name version found.pkg
-        → IsCandidate inputs name version priority → wanted found ≡ true
-    wanted_candidate version priority found of top = or_left (option_map_or (is_version_of found) candidate false)
-        (list_any (is_version_of found) versions || is_asked asked found) (at candidate chosen_is)
+    wanted_candidate : (version : List ℕ) (priority : ℤ) (item : IndexPackage) → IsOf name version item.pkg
+        → IsCandidate inputs name version priority → wanted item ≡ true
+    wanted_candidate version priority item of top = or_left (option_map_or (is_version_of item) candidate false)
+        (list_any (is_version_of item) versions || is_asked asked item) (at candidate chosen_is)
       where
-        at : (o : Option Offer) → IsCandidateOf inputs name o → option_map_or (is_version_of found) o false ≡ true
+        at : (o : Option Offer) → IsCandidateOf inputs name o → option_map_or (is_version_of item) o false ≡ true
         at None none = absurd (none version priority top)
-        at (Some offer) is = version_of_stanza found offer version of
+        at (Some offer) is = version_of_stanza item offer version of
             (one_candidate inputs name offer.version version offer.priority priority is.1 top)
 
-    wanted_version : (version : List ℕ) (priority : ℤ) (found : IndexPackage) → IsOf name version found.pkg
-        → request.asks_all_versions ≡ true → IsEligible inputs name version priority → wanted found ≡ true
-    wanted_version version priority found of all eligible = or_right (option_map_or (is_version_of found) candidate false)
-        (list_any (is_version_of found) versions || is_asked asked found)
-        (or_left (list_any (is_version_of found) versions) (is_asked asked found)
-        (Any-elim (IsOffer version priority) offers (list_any (is_version_of found) versions ≡ true)
-        (λ offer within is. list_any-from_contains (is_version_of found) versions offer
+    wanted_version : (version : List ℕ) (priority : ℤ) (item : IndexPackage) → IsOf name version item.pkg
+        → request.asks_all_versions ≡ true → IsEligible inputs name version priority → wanted item ≡ true
+    wanted_version version priority item of all eligible = or_right (option_map_or (is_version_of item) candidate false)
+        (list_any (is_version_of item) versions || is_asked asked item)
+        (or_left (list_any (is_version_of item) versions) (is_asked asked item)
+        (Any-elim (IsOffer version priority) offers (list_any (is_version_of item) versions ≡ true)
+        (λ offer within is. list_any-from_contains (is_version_of item) versions offer
         (subst (λ (xs : List Offer). Contains xs offer) (sym (versions_are ∙ ap (λ (b : Bool). if b then offers else []) all)) within)
-        (version_of_stanza found offer version of is.0))
+        (version_of_stanza item offer version of is.0))
         (may.covered version priority eligible)))
 
-    wanted_asked : (version : List ℕ) (found : IndexPackage) → IsOf name version found.pkg → Any (NamesExactly name version) request.goals
-        → wanted found ≡ true
-    wanted_asked version found of some = or_right (option_map_or (is_version_of found) candidate false)
-        (list_any (is_version_of found) versions || is_asked asked found)
-        (or_right (list_any (is_version_of found) versions) (is_asked asked found)
-        (sym (list_any-IsPermutation (λ (exact : Exact). is_of exact.name exact.version found.pkg) (exacts_of request.goals) asked asked_are.same)
-        ∙ is_asked-from request.goals found name version of some))
+    wanted_asked : (version : List ℕ) (item : IndexPackage) → IsOf name version item.pkg → Any (NamesExactly name version) request.goals
+        → wanted item ≡ true
+    wanted_asked version item of some = or_right (option_map_or (is_version_of item) candidate false)
+        (list_any (is_version_of item) versions || is_asked asked item)
+        (or_right (list_any (is_version_of item) versions) (is_asked asked item)
+        (sym (list_any-IsPermutation (λ (exact : Exact). is_of exact.name exact.version item.pkg) (exacts_of request.goals) asked asked_are.same)
+        ∙ is_asked-from request.goals item name version of some))
 
     -- what is available and wanted, and doesn't stand
     made_available : (version : List ℕ) → stands_as db name version ≡ false → is_held db name ≡ false
         → IsSome (counting_package inputs name version)
-        → ((found : IndexPackage) → IsOf name version found.pkg → wanted found ≡ true) → IsMade version
+        → ((item : IndexPackage) → IsOf name version item.pkg → wanted item ≡ true) → IsMade version
     made_available version stood held some wants = at (index_package indices name version) refl
         (subst IsSome (counting_listed version stood) some)
       where
         at : (o : Option IndexPackage) → index_package indices name version ≡ o → IsSome (option_map (λ (listed : IndexPackage). listed.pkg) o)
             → IsMade version
         at None from some = absurd (let e : false ≡ true = some in cc)
-        at (Some found) from some =
-            let there = own_ordered version found from in
-            made_listed version found there.0 there.1 stood held (wants found there.1)
+        at (Some item) from some =
+            let there = own_ordered version item from in
+            made_listed version item there.0 there.1 stood held (wants item there.1)
 
     made_offered : (version : List ℕ) → stands_as db name version ≡ false → is_held db name ≡ false → IsOffered inputs name version
         → IsMade version
     unfolding IsOffered
     made_offered version stood held (inl top) = made_available version stood held
         (eligible_counting inputs name version top.0 top.1.eligible)
-        (λ found of. wanted_candidate version top.0 found of top.1)
+        (λ item of. wanted_candidate version top.0 item of top.1)
     made_offered version stood held (inr (inl asks)) = made_available version stood held asks.0
-        (λ found of. wanted_asked version found of asks.1)
+        (λ item of. wanted_asked version item of asks.1)
     made_offered version stood held (inr (inr every)) = made_available version stood held
         (eligible_counting inputs name version every.1.0 every.1.1)
-        (λ found of. wanted_version version every.1.0 found of every.0 every.1.1)
+        (λ item of. wanted_version version every.1.0 item of every.0 every.1.1)
 
     -- each admitted version is made
     made_admitted : (version : List ℕ) → IsAdmitted inputs name version → IsMade version
@@ -320,54 +320,54 @@ module _ (db : List Record) (indices : List Index) (prefs : Preferences) (reques
         at false stood = made_offered version stood (not_held offered.0) offered.1
 
     -- a candidate's stanza is offered
-    offered_candidate : (version : List ℕ) (found : IndexPackage) → IsOf name version found.pkg → (o : Option Offer)
-        → IsCandidateOf inputs name o → option_map_or (is_version_of found) o false ≡ true → IsOffered inputs name version
+    offered_candidate : (version : List ℕ) (item : IndexPackage) → IsOf name version item.pkg → (o : Option Offer)
+        → IsCandidateOf inputs name o → option_map_or (is_version_of item) o false ≡ true → IsOffered inputs name version
     unfolding IsOffered
-    offered_candidate version found of None none passes = absurd (let e : false ≡ true = passes in cc)
-    offered_candidate version found of (Some offer) is passes = inl (
+    offered_candidate version item of None none passes = absurd (let e : false ≡ true = passes in cc)
+    offered_candidate version item of (Some offer) is passes = inl (
       offer.priority,
-      IsCandidate-same inputs name offer.version version offer.priority (stanza_of_version found offer version of passes) is.1,
+      IsCandidate-same inputs name offer.version version offer.priority (stanza_of_version item offer version of passes) is.1,
     )
 
     -- a version's stanza is offered
-    offered_version : (version : List ℕ) (found : IndexPackage) → IsOf name version found.pkg
-        → list_any (is_version_of found) versions ≡ true → IsOffered inputs name version
+    offered_version : (version : List ℕ) (item : IndexPackage) → IsOf name version item.pkg
+        → list_any (is_version_of item) versions ≡ true → IsOffered inputs name version
     unfolding IsOffered
-    offered_version version found of passes = at request.asks_all_versions refl
-        (subst (λ (xs : List Offer). list_any (is_version_of found) xs ≡ true) versions_are passes)
+    offered_version version item of passes = at request.asks_all_versions refl
+        (subst (λ (xs : List Offer). list_any (is_version_of item) xs ≡ true) versions_are passes)
       where
-        at : (b : Bool) → request.asks_all_versions ≡ b → list_any (is_version_of found) (if request.asks_all_versions then offers else []) ≡ true
+        at : (b : Bool) → request.asks_all_versions ≡ b → list_any (is_version_of item) (if request.asks_all_versions then offers else []) ≡ true
             → IsOffered inputs name version
         at false not_all some =
-            let e : false ≡ true = ap (λ (b : Bool). list_any (is_version_of found) (if b then offers else [])) (sym not_all) ∙ some in
+            let e : false ≡ true = ap (λ (b : Bool). list_any (is_version_of item) (if b then offers else [])) (sym not_all) ∙ some in
             absurd cc
         at true all some =
-            let every : list_any (is_version_of found) offers ≡ true =
-            ap (λ (b : Bool). list_any (is_version_of found) (if b then offers else [])) (sym all) ∙ some in
-            Any-elim (λ (offer : Offer). is_version_of found offer ≡ true) offers (IsOffered inputs name version)
+            let every : list_any (is_version_of item) offers ≡ true =
+            ap (λ (b : Bool). list_any (is_version_of item) (if b then offers else [])) (sym all) ∙ some in
+            Any-elim (λ (offer : Offer). is_version_of item offer ≡ true) offers (IsOffered inputs name version)
             (λ offer within is. inr (inr (
               all,
               (
                 offer.priority,
                 IsEligible-same inputs name offer.version version offer.priority
-                    (stanza_of_version found offer version of is) (may.drawn offer within),
+                    (stanza_of_version item offer version of is) (may.drawn offer within),
               ),
             )))
-            (Any-from_list_any (is_version_of found) offers every)
+            (Any-from_list_any (is_version_of item) offers every)
 
-    offered_listed : (version : List ℕ) (found : IndexPackage) → Contains own.ordered found → stands_as db name found.pkg.version ≡ false
-        → wanted found ≡ true → IsOf name version found.pkg → IsOffered inputs name version
+    offered_listed : (version : List ℕ) (item : IndexPackage) → Contains own.ordered item → stands_as db name item.pkg.version ≡ false
+        → wanted item ≡ true → IsOf name version item.pkg → IsOffered inputs name version
     unfolding IsOffered
-    offered_listed version found within stood wants of =
-        elim (or_cases (option_map_or (is_version_of found) candidate false) (list_any (is_version_of found) versions || is_asked asked found) wants) [
-          | inl top ↦ offered_candidate version found of candidate chosen_is top
-          | inr further ↦ elim (or_cases (list_any (is_version_of found) versions) (is_asked asked found) further) [
-            | inl every ↦ offered_version version found of every
+    offered_listed version item within stood wants of =
+        elim (or_cases (option_map_or (is_version_of item) candidate false) (list_any (is_version_of item) versions || is_asked asked item) wants) [
+          | inl top ↦ offered_candidate version item of candidate chosen_is top
+          | inr further ↦ elim (or_cases (list_any (is_version_of item) versions) (is_asked asked item) further) [
+            | inl every ↦ offered_version version item of every
             | inr asks ↦ inr (inl (
-              subst IsSome (sym (counting_listed version (sym (stands_as-same db name found.pkg.version version of.1) ∙ stood)
-                  ∙ ap (option_map (λ (listed : IndexPackage). listed.pkg)) ((ordered_own found within).1 version of))) refl,
-              is_asked-names request.goals found
-                  (list_any-IsPermutation (λ (exact : Exact). is_of exact.name exact.version found.pkg) (exacts_of request.goals) asked asked_are.same
+              subst IsSome (sym (counting_listed version (sym (stands_as-same db name item.pkg.version version of.1) ∙ stood)
+                  ∙ ap (option_map (λ (listed : IndexPackage). listed.pkg)) ((ordered_own item within).1 version of))) refl,
+              is_asked-names request.goals item
+                  (list_any-IsPermutation (λ (exact : Exact). is_of exact.name exact.version item.pkg) (exacts_of request.goals) asked asked_are.same
                   ∙ asks) name version of,
             ))
           ]
@@ -377,15 +377,15 @@ module _ (db : List Record) (indices : List Index) (prefs : Preferences) (reques
     admitted_made : (pair : Pair) → IsStanding pair ⊎ IsListed pair → (other version : List ℕ) → IsOf other version pair.pkg
         → IsAdmitted inputs other version
     unfolding IsAdmitted
-    admitted_made pair (inl (found, within, named, stood, same)) other version of =
-        let its : IsOf other version (pkg_of found) = subst (λ (p : Pair). IsOf other version p.pkg) (sym same) of in
-        inl (StandsAs-from db other version found within its.0 stood its.1)
-    admitted_made pair (inr (found, within, stood, held, wants, same)) other version of =
-        let its : IsOf other version found.pkg = subst (λ (p : Pair). IsOf other version p.pkg) (sym same) of in
-        let named : name ≡ other = sym (ordered_own found within).0 ∙ its.0 in
+    admitted_made pair (inl (item, within, named, stood, same)) other version of =
+        let its : IsOf other version (pkg_of item) = subst (λ (p : Pair). IsOf other version p.pkg) (sym same) of in
+        inl (StandsAs-from db other version item within its.0 stood its.1)
+    admitted_made pair (inr (item, within, stood, held, wants, same)) other version of =
+        let its : IsOf other version item.pkg = subst (λ (p : Pair). IsOf other version p.pkg) (sym same) of in
+        let named : name ≡ other = sym (ordered_own item within).0 ∙ its.0 in
         subst (λ (n : List ℕ). IsAdmitted inputs n version) named (inr (
           λ holds. let e : false ≡ true = sym held ∙ held-from db distinct name holds in cc,
-          offered_listed version found within stood wants ((ordered_own found within).0, its.1),
+          offered_listed version item within stood wants ((ordered_own item within).0, its.1),
         ))
 
     module _ (pairs : List Pair) (ordered : ArePairs made pairs) where

@@ -39,21 +39,21 @@ is_eq-reverse Equal = refl
 is_eq-reverse Greater = refl
 
 -- what is sought ties with just the stanzas of that name and version
-exact_ties : (exact : Exact) (found : IndexPackage)
-    → is_eq (exact_cmp exact (exact_at found)) ≡ is_of exact.name exact.version found.pkg
-exact_ties exact found = ap is_eq (exact_cmp_total.antisymm exact (exact_at found))
-    ∙ is_eq-reverse (exact_cmp (exact_at found) exact)
-    ∙ is_eq-then (name_cmp found.pkg.name exact.name) (version_cmp found.pkg.version exact.version)
-    ∙ ap (λ (b : Bool). b && same_version found.pkg.version exact.version) (is_eq-slice_cmp found.pkg.name exact.name)
+exact_ties : (exact : Exact) (stanza : IndexPackage)
+    → is_eq (exact_cmp exact (exact_at stanza)) ≡ is_of exact.name exact.version stanza.pkg
+exact_ties exact stanza = ap is_eq (exact_cmp_total.antisymm exact (exact_at stanza))
+    ∙ is_eq-reverse (exact_cmp (exact_at stanza) exact)
+    ∙ is_eq-then (name_cmp stanza.pkg.name exact.name) (version_cmp stanza.pkg.version exact.version)
+    ∙ ap (λ (b : Bool). b && same_version stanza.pkg.version exact.version) (is_eq-slice_cmp stanza.pkg.name exact.name)
 
 -- a binary search in what is sought tells whether the stanza is one
-pub searched_exact : (exacts : List Exact) (found : IndexPackage) (r : Result ℕ ℕ) → IsSorted exact_cmp exacts
-    → IsSearchInRange r (length exacts) → IsBinarySearchResult (λ exact. exact_cmp exact (exact_at found)) exacts r
-    → is_ok r ≡ is_asked exacts found
-searched_exact exacts found r ascending within at =
-    searched_any (λ (exact : Exact). is_of exact.name exact.version found.pkg) (λ (exact : Exact). exact_cmp exact (exact_at found))
-    exacts r (λ exact. exact_ties exact found)
-    (searchable_from_sorted exact_cmp_total (λ (exact : Exact). exact) exacts (exact_at found) ascending) within at
+pub searched_exact : (exacts : List Exact) (stanza : IndexPackage) (r : Result ℕ ℕ) → IsSorted exact_cmp exacts
+    → IsSearchInRange r (length exacts) → IsBinarySearchResult (λ exact. exact_cmp exact (exact_at stanza)) exacts r
+    → is_ok r ≡ is_asked exacts stanza
+searched_exact exacts stanza r ascending within at =
+    searched_any (λ (exact : Exact). is_of exact.name exact.version stanza.pkg) (λ (exact : Exact). exact_cmp exact (exact_at stanza))
+    exacts r (λ exact. exact_ties exact stanza)
+    (searchable_from_sorted exact_cmp_total (λ (exact : Exact). exact) exacts (exact_at stanza) ascending) within at
 
 -- among records and stanzas that have the same names a goal is unknown alike
 is_unknown-agree : (start known : List Record) (listed other : List IndexPackage)
@@ -74,14 +74,14 @@ pub first_unknown-ordered : (start known : List Record) (listed ordered : List I
 first_unknown-ordered start known listed ordered are is lines = ap (option_map (λ (asked : GoalLine). asked.line))
     (find-agree (λ (asked : GoalLine). is_unknown known ordered asked.goal) (λ (asked : GoalLine). is_unknown start listed asked.goal)
     (λ asked. is_unknown-agree known start ordered listed
-    (λ name. ap (λ (o : Option Record). option_map_or (λ found. not (is_not_installed_state found.state)) o false) (are.same name))
+    (λ name. ap (λ (o : Option Record). option_map_or (λ entry. not (is_not_installed_state entry.state)) o false) (are.same name))
     (has_name-ordered listed ordered is) asked.goal) lines)
 
 -- a binary search among versions that ascend tells whether one is that of the stanza
-pub searched_offer : (offers : List Offer) (found : IndexPackage) (r : Result ℕ ℕ) → IsStrictlySortedBy offer_version_cmp offers
-    → IsSearchInRange r (length offers) → IsBinarySearchResult (λ offer. version_cmp offer.version found.pkg.version) offers r
-    → is_ok r ≡ list_any (is_version_of found) offers
-searched_offer offers found r ascending within at =
-    searched_any (is_version_of found) (λ (offer : Offer). version_cmp offer.version found.pkg.version) offers r (λ offer. refl)
-    (searchable_from_sorted version_cmp_total (λ (offer : Offer). offer.version) offers found.pkg.version
+pub searched_offer : (offers : List Offer) (stanza : IndexPackage) (r : Result ℕ ℕ) → IsStrictlySortedBy offer_version_cmp offers
+    → IsSearchInRange r (length offers) → IsBinarySearchResult (λ offer. version_cmp offer.version stanza.pkg.version) offers r
+    → is_ok r ≡ list_any (is_version_of stanza) offers
+searched_offer offers stanza r ascending within at =
+    searched_any (is_version_of stanza) (λ (offer : Offer). version_cmp offer.version stanza.pkg.version) offers r (λ offer. refl)
+    (searchable_from_sorted version_cmp_total (λ (offer : Offer). offer.version) offers stanza.pkg.version
     (not_back offer_version_cmp (on_total (λ (offer : Offer). offer.version) version_cmp_total).antisymm offers ascending)) within at

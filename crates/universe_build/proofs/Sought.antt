@@ -69,8 +69,8 @@ NamesExactly-from name version (goal.Install own (Some restriction)) exact is na
         → cond b (Some (record { name = own; version = restriction.version })) None ≡ Some exact
         → (own ≡ name) × (restriction.op ≡ operator.ExactlyEqual) × SameVersion version restriction.version
     at true passes whole =
-        let found : Exact = record { name = own; version = restriction.version } in
-        let alike : found ≡ exact = same_Some found exact whole in (
+        let spelled : Exact = record { name = own; version = restriction.version } in
+        let alike : spelled ≡ exact = same_Some spelled exact whole in (
           ap (λ (e : Exact). e.name) alike ∙ named,
           exactly-is restriction.op passes,
           subst (SameVersion version) (sym (ap (λ (e : Exact). e.version) alike)) same,
@@ -86,10 +86,10 @@ pub NamesExactly-is : (name version : List ℕ) (asked : Goal) → NamesExactly 
     → (exact : Exact) × (exact_of asked ≡ Some exact) × (exact.name ≡ name) × SameVersion version exact.version
 NamesExactly-is name version (goal.Install own None) names = absurd names
 NamesExactly-is name version (goal.Install own (Some restriction)) names =
-    (found, ap (λ (op : Op). cond (is_exactly op) (Some found) None) names.1, names.0, names.2)
+    (spelled, ap (λ (op : Op). cond (is_exactly op) (Some spelled) None) names.1, names.0, names.2)
   where
-    found : Exact
-    found = record { name = own; version = restriction.version }
+    spelled : Exact
+    spelled = record { name = own; version = restriction.version }
 NamesExactly-is name version (goal.Remove own) names = absurd names
 NamesExactly-is name version (goal.Purge own) names = absurd names
 NamesExactly-is name version (goal.Upgrade own) names = absurd names
@@ -97,28 +97,28 @@ NamesExactly-is name version goal.UpgradeAll names = absurd names
 NamesExactly-is name version goal.NoRemove names = absurd names
 
 -- a stanza that is asked for is named by a goal, as is each text of its version
-pub is_asked-names : (goals : List Goal) (found : IndexPackage) → is_asked (exacts_of goals) found ≡ true
-    → (name version : List ℕ) → IsOf name version found.pkg → Any (NamesExactly name version) goals
-is_asked-names goals found passes name version of = Any-elim
-    (λ (exact : Exact). is_of exact.name exact.version found.pkg ≡ true) (exacts_of goals) (Any (NamesExactly name version) goals)
+pub is_asked-names : (goals : List Goal) (stanza : IndexPackage) → is_asked (exacts_of goals) stanza ≡ true
+    → (name version : List ℕ) → IsOf name version stanza.pkg → Any (NamesExactly name version) goals
+is_asked-names goals stanza passes name version of = Any-elim
+    (λ (exact : Exact). is_of exact.name exact.version stanza.pkg ≡ true) (exacts_of goals) (Any (NamesExactly name version) goals)
     (λ exact within is.
     let asked = Contains-filter_map exact_of goals exact within in
-    let own : IsOf exact.name exact.version found.pkg = is_of-parts exact.name exact.version found.pkg is in
+    let own : IsOf exact.name exact.version stanza.pkg = is_of-parts exact.name exact.version stanza.pkg is in
     Any-intro (NamesExactly name version) goals asked.0 asked.1
     (NamesExactly-from name version asked.0 exact asked.2 (sym own.0 ∙ of.0)
-    (SameVersion-trans version found.pkg.version exact.version (SameVersion-symm found.pkg.version version of.1) own.1)))
-    (Any-from_list_any (λ (exact : Exact). is_of exact.name exact.version found.pkg) (exacts_of goals) passes)
+    (SameVersion-trans version stanza.pkg.version exact.version (SameVersion-symm stanza.pkg.version version of.1) own.1)))
+    (Any-from_list_any (λ (exact : Exact). is_of exact.name exact.version stanza.pkg) (exacts_of goals) passes)
 
 -- a stanza that a goal names is asked for
-pub is_asked-from : (goals : List Goal) (found : IndexPackage) (name version : List ℕ) → IsOf name version found.pkg
-    → Any (NamesExactly name version) goals → is_asked (exacts_of goals) found ≡ true
-is_asked-from goals found name version of some = Any-elim (NamesExactly name version) goals (is_asked (exacts_of goals) found ≡ true)
+pub is_asked-from : (goals : List Goal) (stanza : IndexPackage) (name version : List ℕ) → IsOf name version stanza.pkg
+    → Any (NamesExactly name version) goals → is_asked (exacts_of goals) stanza ≡ true
+is_asked-from goals stanza name version of some = Any-elim (NamesExactly name version) goals (is_asked (exacts_of goals) stanza ≡ true)
     (λ asked within names.
     let exact = NamesExactly-is name version asked names in
-    list_any-from_contains (λ (e : Exact). is_of e.name e.version found.pkg) (exacts_of goals) exact.0
+    list_any-from_contains (λ (e : Exact). is_of e.name e.version stanza.pkg) (exacts_of goals) exact.0
     (Contains-filter_map_intro exact_of goals asked exact.0 within exact.1)
-    (is_of-from exact.0.name exact.0.version found.pkg
-    (of.0 ∙ sym exact.2, SameVersion-trans found.pkg.version version exact.0.version of.1 exact.3)))
+    (is_of-from exact.0.name exact.0.version stanza.pkg
+    (of.0 ∙ sym exact.2, SameVersion-trans stanza.pkg.version version exact.0.version of.1 exact.3)))
     some
 
 -- what is left of changed elements by a filter that changes

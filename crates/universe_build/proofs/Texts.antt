@@ -19,11 +19,11 @@ IsDowngrade-same : (inputs : Inputs) (name version other : List ℕ) → SameVer
     → IsDowngrade inputs name version
 unfolding IsDowngrade
 IsDowngrade-same inputs name version other same some =
-    Any-elim (λ (found : Record). (found.name ≡ name) × (Stands found × (version_cmp other found.version ≡ Less))) inputs.start
-    (HasRecord (λ found. Stands found × (version_cmp version found.version ≡ Less)) name inputs.start)
-    (λ found within is.
-    Any-intro (λ (found : Record). (found.name ≡ name) × (Stands found × (version_cmp version found.version ≡ Less))) inputs.start found within
-    (is.0, (is.1.0, version_cmp-same_left version other found.version same ∙ is.1.1))) some
+    Any-elim (λ (entry : Record). (entry.name ≡ name) × (Stands entry × (version_cmp other entry.version ≡ Less))) inputs.start
+    (HasRecord (λ entry. Stands entry × (version_cmp version entry.version ≡ Less)) name inputs.start)
+    (λ entry within is.
+    Any-intro (λ (entry : Record). (entry.name ≡ name) × (Stands entry × (version_cmp version entry.version ≡ Less))) inputs.start entry within
+    (is.0, (is.1.0, version_cmp-same_left version other entry.version same ∙ is.1.1))) some
 
 pub IsEligible-same : (inputs : Inputs) (name version other : List ℕ) (priority : ℤ) → SameVersion version other
     → IsEligible inputs name version priority → IsEligible inputs name other priority

@@ -9,7 +9,7 @@ use Rattle.rules.specs.Universe.{Candidate, IsAdmitted, IsKeptCandidate, IsOf, I
 use Rattle.rules.specs.declared.goal.GoalLine.{GoalLine}
 use Rattle.std.proofs.lemmas.Map.Keys.{Less-from_sorted}
 use Rattle.candidates.specs.Inputs.{inputs_of}
-use Rattle.candidates.specs.Names.{AreNames, Names}
+use Rattle.candidates.specs.Names.{AreNames, NameTable}
 use Rattle.universe_build.specs.Build.{goals_of, request_of, universe_with}
 use Rattle.universe_build.specs.ByName.{AreAdmitted, AreAscending, AreGiven, Given}
 use Rattle.universe_build.specs.Choice.{AreExacts, Exact, exacts_of}
@@ -41,7 +41,7 @@ IsUniverse-made start indices prefs lines all pairs candidates are up = record {
 abbrev pub given_by : List Record → List Index → List GoalLine → Bool → Given
 given_by start indices lines all = record { start = start; indices = indices; request = request_of lines all }
 
-pub AreGiven-by : (start : List Record) (indices : List Index) (lines : List GoalLine) (all : Bool) (names : Names) (asked : List Exact)
+pub AreGiven-by : (start : List Record) (indices : List Index) (lines : List GoalLine) (all : Bool) (names : NameTable) (asked : List Exact)
     → HasDistinctNames start → AreNames start indices names → AreExacts (exacts_of (goals_of lines)) asked
     → AreGiven (given_by start indices lines all) names asked all
 AreGiven-by start indices lines all names asked distinct are exacts = record {

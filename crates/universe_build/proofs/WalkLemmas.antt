@@ -17,7 +17,7 @@ use Rattle.rules.specs.NamedLaws.{bytes_eq-true}
 use Rattle.rules.specs.Step.{IndexPackage, is_named}
 use Rattle.rules.specs.Universe.{Candidate, IsAdmitted, IsOf, IsOffered, Pair, candidate_cmp, pair_cmp}
 use Rattle.rules.specs.Version.{SameVersion, version_cmp}
-use Rattle.candidates.specs.Names.{AreNames, IsAmong, IsBefore, IsSplit, Names, OfName, part_of}
+use Rattle.candidates.specs.Names.{AreNames, IsAmong, IsBefore, IsSplit, NameTable, OfName, part_of}
 use Rattle.candidates.specs.Stanza.{has_stanza_name}
 use Rattle.candidates.proofs.Named.{StandsAs-is, standing_record-is, within_known}
 use Rattle.candidates.proofs.Ordered.{ordered_found}
@@ -45,31 +45,31 @@ ascending_append c (x ∷ xs) ys first second below = (
 )
 
 -- a name that is before all of these is before each that is among them
-before_among : (name : List ℕ) (names : Names) → IsBefore name names → (other : List ℕ) → IsAmong other names → name_cmp name other ≡ Less
+before_among : (name : List ℕ) (names : NameTable) → IsBefore name names → (other : List ℕ) → IsAmong other names → name_cmp name other ≡ Less
 before_among name names before other among = elim among [
-  | inl some ↦ Any-elim (λ (found : Record). found.name ≡ other) names.known (name_cmp name other ≡ Less)
-      (λ found within is. subst (λ (n : List ℕ). name_cmp name n ≡ Less) is
-      (All-contains (λ (r : Record). name_cmp name r.name ≡ Less) names.known found before.records within)) some
-  | inr some ↦ Any-elim (λ (found : IndexPackage). found.pkg.name ≡ other) names.ordered (name_cmp name other ≡ Less)
-      (λ found within is. subst (λ (n : List ℕ). name_cmp name n ≡ Less) is
-      (All-contains (λ (p : IndexPackage). name_cmp name p.pkg.name ≡ Less) names.ordered found before.stanzas within)) some
+  | inl some ↦ Any-elim (λ (item : Record). item.name ≡ other) names.known (name_cmp name other ≡ Less)
+      (λ item within is. subst (λ (n : List ℕ). name_cmp name n ≡ Less) is
+      (All-contains (λ (r : Record). name_cmp name r.name ≡ Less) names.known item before.records within)) some
+  | inr some ↦ Any-elim (λ (item : IndexPackage). item.pkg.name ≡ other) names.ordered (name_cmp name other ≡ Less)
+      (λ item within is. subst (λ (n : List ℕ). name_cmp name n ≡ Less) is
+      (All-contains (λ (p : IndexPackage). name_cmp name p.pkg.name ≡ Less) names.ordered item before.stanzas within)) some
 ]
 
 -- and the other way round
-before_from : (name : List ℕ) (names : Names) → ((other : List ℕ) → IsAmong other names → name_cmp name other ≡ Less) → IsBefore name names
+before_from : (name : List ℕ) (names : NameTable) → ((other : List ℕ) → IsAmong other names → name_cmp name other ≡ Less) → IsBefore name names
 before_from name names below = record {
   records = All-intro (λ (r : Record). name_cmp name r.name ≡ Less) names.known
-      (λ r within. below r.name (inl (Any-intro (λ (found : Record). found.name ≡ r.name) names.known r within refl)));
+      (λ r within. below r.name (inl (Any-intro (λ (item : Record). item.name ≡ r.name) names.known r within refl)));
   stanzas = All-intro (λ (p : IndexPackage). name_cmp name p.pkg.name ≡ Less) names.ordered
-      (λ p within. below p.pkg.name (inr (Any-intro (λ (found : IndexPackage). found.pkg.name ≡ p.pkg.name) names.ordered p within refl)));
+      (λ p within. below p.pkg.name (inr (Any-intro (λ (item : IndexPackage). item.pkg.name ≡ p.pkg.name) names.ordered p within refl)));
 }
 
 -- the names are left of others: each is among these, and has what these have of it
-abbrev pub AreRest : Names → Names → Type 0
+abbrev pub AreRest : NameTable → NameTable → Type 0
 AreRest names left = (name : List ℕ) → IsAmong name left → IsAmong name names × (part_of left name ≡ part_of names name)
 
-module _ (left : Names) (own : OfName) (rest : Names) (split : IsSplit left own rest) where
-  pub AreRest-split : (names : Names) → AreRest names left → AreRest names rest
+module _ (left : NameTable) (own : OfName) (rest : NameTable) (split : IsSplit left own rest) where
+  pub AreRest-split : (names : NameTable) → AreRest names left → AreRest names rest
   AreRest-split names are name among =
       let there = split.behind name among in
       let above = are name there.0 in
@@ -143,13 +143,13 @@ module _ (left : Names) (own : OfName) (rest : Names) (split : IsSplit left own 
   }
 
 -- what is of the first name of the rest of names
-pub IsOfName-part : (names : Names) (own : OfName) → own ≡ part_of names own.name → IsOfName own
+pub IsOfName-part : (names : NameTable) (own : OfName) → own ≡ part_of names own.name → IsOfName own
 IsOfName-part names own same = subst IsOfName (sym same) (record {
-  records = λ found within. bytes_eq-true found.name own.name (Contains-filter (is_named own.name) names.known found within).1;
-  stanzas = λ found within. bytes_eq-true found.pkg.name own.name (Contains-filter (has_stanza_name own.name) names.ordered found within).1;
+  records = λ item within. bytes_eq-true item.name own.name (Contains-filter (is_named own.name) names.known item within).1;
+  stanzas = λ item within. bytes_eq-true item.pkg.name own.name (Contains-filter (has_stanza_name own.name) names.ordered item within).1;
 })
 
-pub IsGiven-split : (given : Given) (names left : Names) (own : OfName) (rest : Names) (asked : List Exact) (all : Bool)
+pub IsGiven-split : (given : Given) (names left : NameTable) (own : OfName) (rest : NameTable) (asked : List Exact) (all : Bool)
     → AreGiven given names asked all → AreRest names left → IsSplit left own rest → IsGiven given own asked all
 IsGiven-split given names left own rest asked all of are split =
     let there = are own.name split.among in
@@ -160,14 +160,14 @@ IsGiven-split given names left own rest asked all of are split =
       own_is = split.first ∙ there.1;
     }
 
-module _ (given : Given) (prefs : Preferences) (names : Names) (distinct : HasDistinctNames given.start)
+module _ (given : Given) (prefs : Preferences) (names : NameTable) (distinct : HasDistinctNames given.start)
     (are : AreNames given.start given.indices names) where
   abbrev inputs : Inputs
   inputs = given_inputs given prefs
 
-  record_among : (found : Record) → Contains given.start found → (name : List ℕ) → found.name ≡ name → IsAmong name names
-  record_among found within name named = inl (Any-intro (λ (r : Record). r.name ≡ name) names.known found
-      (within_known given.start names.known distinct are.known found within) named)
+  record_among : (item : Record) → Contains given.start item → (name : List ℕ) → item.name ≡ name → IsAmong name names
+  record_among item within name named = inl (Any-intro (λ (r : Record). r.name ≡ name) names.known item
+      (within_known given.start names.known distinct are.known item within) named)
 
   -- what is available is among the names
   available_among : (name version : List ℕ) → IsSome (counting_package inputs name version) → IsAmong name names
@@ -176,12 +176,12 @@ module _ (given : Given) (prefs : Preferences) (names : Names) (distinct : HasDi
       at : (r : Option Record) → standing_record given.start name version ≡ r → (l : Option IndexPackage)
           → index_package given.indices name version ≡ l
           → IsSome (option_or (option_map pkg_of r) (option_map (λ (listed : IndexPackage). listed.pkg) l)) → IsAmong name names
-      at (Some found) stood l from has =
-          let there = standing_record-is given.start name version found stood in
-          record_among found there.0 name there.1
-      at None none (Some found) from has =
-          let there = ordered_found (all_listed given.indices) names.ordered are.ordered name version found from in
-          inr (Any-intro (λ (p : IndexPackage). p.pkg.name ≡ name) names.ordered found there.0 there.1.0)
+      at (Some item) stood l from has =
+          let there = standing_record-is given.start name version item stood in
+          record_among item there.0 name there.1
+      at None none (Some item) from has =
+          let there = ordered_found (all_listed given.indices) names.ordered are.ordered name version item from in
+          inr (Any-intro (λ (p : IndexPackage). p.pkg.name ≡ name) names.ordered item there.0 there.1.0)
       at None none None from has = absurd (let e : false ≡ true = has in cc)
 
   offered_among : (name version : List ℕ) → IsOffered inputs name version → IsAmong name names
@@ -212,23 +212,23 @@ pub AreAscending-start : AreAscending [] []
 unfolding IsStrictlySortedBy
 AreAscending-start = record { of_pairs = tt; of_candidates = tt }
 
-pub AreBefore-start : (names : Names) → AreBefore names [] []
+pub AreBefore-start : (names : NameTable) → AreBefore names [] []
 AreBefore-start names = record {
   pairs_are = λ pair within. absurd (Contains-nil pair within);
   candidates_are = λ one within. absurd (Contains-nil one within);
 }
 
 -- where nothing is left no name is
-none_among : (left : Names) → left.known ≡ [] → left.ordered ≡ [] → (name : List ℕ) → IsAmong name left → ⊥
+none_among : (left : NameTable) → left.known ≡ [] → left.ordered ≡ [] → (name : List ℕ) → IsAmong name left → ⊥
 none_among left no_records no_stanzas name among = elim among [
-  | inl some ↦ Any-elim (λ (found : Record). found.name ≡ name) left.known ⊥
-      (λ found within is. Contains-nil found (subst (λ (xs : List Record). Contains xs found) no_records within)) some
-  | inr some ↦ Any-elim (λ (found : IndexPackage). found.pkg.name ≡ name) left.ordered ⊥
-      (λ found within is. Contains-nil found (subst (λ (xs : List IndexPackage). Contains xs found) no_stanzas within)) some
+  | inl some ↦ Any-elim (λ (item : Record). item.name ≡ name) left.known ⊥
+      (λ item within is. Contains-nil item (subst (λ (xs : List Record). Contains xs item) no_records within)) some
+  | inr some ↦ Any-elim (λ (item : IndexPackage). item.pkg.name ≡ name) left.ordered ⊥
+      (λ item within is. Contains-nil item (subst (λ (xs : List IndexPackage). Contains xs item) no_stanzas within)) some
 ]
 
 -- at the end all are behind
-pub AreAdmitted-end : (of : Inputs) (left : Names) (pairs : List Pair) (candidates : List Candidate) → left.known ≡ [] → left.ordered ≡ []
+pub AreAdmitted-end : (of : Inputs) (left : NameTable) (pairs : List Pair) (candidates : List Candidate) → left.known ≡ [] → left.ordered ≡ []
     → AreBehind of left pairs candidates → AreAdmitted of pairs candidates
 AreAdmitted-end of left pairs candidates no_records no_stanzas behind = record {
   drawn = behind.drawn;

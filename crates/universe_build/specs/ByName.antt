@@ -4,7 +4,7 @@ use Rattle.std.specs.List.{Any, Contains, filter, filter_map, list_any}
 use Rattle.std.specs.List.Sorted.{IsStrictlySortedBy}
 use Rattle.std.specs.Option.{option_map_or}
 use Rattle.candidates.specs.Inputs.{inputs_of}
-use Rattle.candidates.specs.Names.{AreNames, IsAmong, IsBefore, Names, OfName, part_of}
+use Rattle.candidates.specs.Names.{AreNames, IsAmong, IsBefore, NameTable, OfName, part_of}
 use Rattle.candidates.specs.Offer.{Offer}
 use Rattle.candidates.specs.Recorded as Recorded
 use Rattle.candidates.specs.Stanza.{stanza_of}
@@ -19,12 +19,12 @@ use Rattle.universe_build.specs.Choice.{AreExacts, Exact, exacts_of, is_asked}
 
 -- the stanza of what stands, if there is one
 abbrev pub standing_stanza : List IndexPackage → Record → Option IndexPackage
-standing_stanza listed found = if stands found then stanza_of listed found.name found.version else None
+standing_stanza listed entry = if stands entry then stanza_of listed entry.name entry.version else None
 
 -- the pair of the record, if it stands: its package, and the stanza of its version
 abbrev pub standing_pair : List IndexPackage → Record → Option Pair
-standing_pair listed found =
-    if stands found then Some (record { pkg = pkg_of found; listed = standing_stanza listed found }) else None
+standing_pair listed entry =
+    if stands entry then Some (record { pkg = pkg_of entry; listed = standing_stanza listed entry }) else None
 
 -- the pairs of what stands
 abbrev pub standing_pairs : List IndexPackage → List Record → List Pair
@@ -32,24 +32,24 @@ standing_pairs listed db = filter_map (standing_pair listed) db
 
 -- the pair of a stanza that counts alone
 abbrev pub listed_pair : IndexPackage → Pair
-listed_pair found = record { pkg = found.pkg; listed = Some found }
+listed_pair stanza = record { pkg = stanza.pkg; listed = Some stanza }
 
 -- the stanza is free to be chosen: its version doesn't stand, and its name isn't held
 abbrev pub is_free : List Record → IndexPackage → Bool
-is_free db found = Recorded.is_free db found.pkg.name found.pkg.version
+is_free db stanza = Recorded.is_free db stanza.pkg.name stanza.pkg.version
 
 -- the offer is of the version of the stanza
 abbrev pub is_version_of : IndexPackage → Offer → Bool
-is_version_of found offer = same_version offer.version found.pkg.version
+is_version_of stanza offer = same_version offer.version stanza.pkg.version
 
 -- the stanza is of the candidate's version, of one of these versions, or of one that is asked for
 abbrev pub is_wanted : Option Offer → List Offer → List Exact → IndexPackage → Bool
-is_wanted candidate versions asked found = option_map_or (is_version_of found) candidate false
-    || (list_any (is_version_of found) versions || is_asked asked found)
+is_wanted candidate versions asked stanza = option_map_or (is_version_of stanza) candidate false
+    || (list_any (is_version_of stanza) versions || is_asked asked stanza)
 
 -- the stanza is free and wanted
 abbrev pub is_chosen : List Record → Option Offer → List Offer → List Exact → IndexPackage → Bool
-is_chosen known candidate versions asked found = is_free known found && is_wanted candidate versions asked found
+is_chosen known candidate versions asked stanza = is_free known stanza && is_wanted candidate versions asked stanza
 
 -- the pairs of the stanzas that are chosen
 abbrev pub listed_pairs : List Record → List IndexPackage → Option Offer → List Offer → List Exact → List Pair
@@ -92,7 +92,7 @@ pub record AreNamed (name : List ℕ) (pairs : List Pair) (candidates : List Can
   pub candidates_are : (candidate : Candidate) → Contains candidates candidate → candidate.name ≡ name
 
 -- the pairs and the candidates are of names before all that are left
-pub record AreBefore (left : Names) (pairs : List Pair) (candidates : List Candidate) : Type 0 where
+pub record AreBefore (left : NameTable) (pairs : List Pair) (candidates : List Candidate) : Type 0 where
   pub pairs_are : (pair : Pair) → Contains pairs pair → IsBefore pair.pkg.name left
   pub candidates_are : (candidate : Candidate) → Contains candidates candidate → IsBefore candidate.name left
 
@@ -108,7 +108,7 @@ pub record AreOfName (inputs : Inputs) (name : List ℕ) (pairs : List Pair) (ca
   pub candidates_covered : (version : List ℕ) (priority : ℤ) → IsCandidate inputs name version priority → HasCandidate name version candidates
 
 -- the pairs and the candidates are those of all names but these
-pub record AreBehind (inputs : Inputs) (left : Names) (pairs : List Pair) (candidates : List Candidate) : Type 0 where
+pub record AreBehind (inputs : Inputs) (left : NameTable) (pairs : List Pair) (candidates : List Candidate) : Type 0 where
   pub drawn : AreDrawn inputs pairs candidates
   pub pairs_covered : (name version : List ℕ) → IsAdmitted inputs name version → IsAmong name left ⊎ HasPair name version pairs
   pub candidates_covered : (name version : List ℕ) (priority : ℤ) → IsCandidate inputs name version priority
@@ -132,7 +132,7 @@ abbrev pub given_inputs : Given → Preferences → Inputs
 given_inputs given prefs = inputs_of given.start given.indices prefs given.request
 
 -- the names are those of the start and the indices, and what is asked for is what the request asks for
-pub record AreGiven (given : Given) (names : Names) (asked : List Exact) (all : Bool) : Type 0 where
+pub record AreGiven (given : Given) (names : NameTable) (asked : List Exact) (all : Bool) : Type 0 where
   pub distinct : HasDistinctNames given.start
   pub names_are : AreNames given.start given.indices names
   pub asked_is : AreExacts (exacts_of given.request.goals) asked
@@ -140,12 +140,12 @@ pub record AreGiven (given : Given) (names : Names) (asked : List Exact) (all : 
 
 -- what there is of one of the names, and the same
 pub record IsGiven (given : Given) (own : OfName) (asked : List Exact) (all : Bool) : Type 0 where
-  pub names : Names
+  pub names : NameTable
   pub of : AreGiven given names asked all
   pub among : IsAmong own.name names
   pub own_is : own ≡ part_of names own.name
 
 -- the records and the stanzas are of the name
 pub record IsOfName (own : OfName) : Type 0 where
-  pub records : (found : Record) → Contains own.known found → found.name ≡ own.name
-  pub stanzas : (found : IndexPackage) → Contains own.ordered found → found.pkg.name ≡ own.name
+  pub records : (item : Record) → Contains own.known item → item.name ≡ own.name
+  pub stanzas : (item : IndexPackage) → Contains own.ordered item → item.pkg.name ≡ own.name

@@ -27,7 +27,7 @@ exact_cmp = then_cmp (on (λ exact. exact.name) name_cmp) (on (λ exact. exact.v
 
 -- the version of a stanza, as it is asked for
 abbrev pub exact_at : IndexPackage → Exact
-exact_at found = record { name = found.pkg.name; version = found.pkg.version }
+exact_at stanza = record { name = stanza.pkg.name; version = stanza.pkg.version }
 
 -- the operator is `=`
 abbrev pub is_exactly : Op → Bool
@@ -63,7 +63,7 @@ pub record AreExacts (asked exacts : List Exact) : Type 0 where
 
 -- the stanza is of a version that is asked for
 abbrev pub is_asked : List Exact → IndexPackage → Bool
-is_asked exacts found = list_any (λ exact. is_of exact.name exact.version found.pkg) exacts
+is_asked exacts stanza = list_any (λ exact. is_of exact.name exact.version stanza.pkg) exacts
 
 -- the candidate of the name that the offer is, if there is one
 abbrev pub candidates_at : List ℕ → Option Offer → List Candidate

@@ -8,14 +8,14 @@ use Rattle.rules.specs.Database.{Record}
 use Rattle.rules.specs.Universe.{IsUniverse, Pair}
 use Rattle.rules.specs.declared.goal.Goal.{Goal}
 use Rattle.rules.specs.declared.goal.GoalLine.{GoalLine}
-use Rattle.candidates.specs.Names.{AreNames, Names}
+use Rattle.candidates.specs.Names.{AreNames, NameTable}
 use Rattle.universe.specs.Admitted.{Admitted, asked_of}
 use Rattle.universe_build.specs.Build.{inputs_of, request_of}
 use Rattle.universe_build.specs.Choice.{exact_of}
 
 -- the names of the start and of the indices, and what is admitted of them where there is no goal, for all versions or not
 pub record Listing : Type 0 where
-  pub names : Names
+  pub names : NameTable
   pub admitted : Admitted
   pub asks_all_versions : Bool
 

@@ -10,7 +10,7 @@ ghost use Rattle.universe_build.specs.Build.{goals_of};
 ghost use Rattle.universe_build.specs.Choice.{AreExacts, exact_at, exact_by, exact_cmp, exact_of, exacts_of, is_asked, is_exactly};
 ghost use Rattle.universe_build.specs.ChoiceLaws.{exact_cmp_total};
 
-use candidates::Found;
+use candidates::OrderedEntry;
 use debversion::Version;
 use rules::{Goal, GoalLine, Name, Op, Restriction, name_cmp};
 use std::alloc::{AllocError, Global};
@@ -36,7 +36,8 @@ impl<'g> Model for Exact<'g> {
 impl Exact<'_> {
     /// Whether it is the version of a pair. A binary search.
     pub fn is_among(&self, pairs: &Pairs<'_, '_>) -> bool
-        ensures { result ≡ list_any (λ pair. is_of self.now.name self.now.version pair.pkg) pairs.now }
+        ensures { result
+            ≡ list_any (λ pair. is_of self.now.name self.now.version pair.pkg) pairs.now }
     {
         pairs.has(self.name, &self.version)
     }
@@ -90,7 +91,8 @@ pub fn exact_of(goal: &Goal) -> Option<Exact<'_>>
 
 // What the goals ask for with `=`, in their order.
 fn asked_by<'g>(alloc: Global, lines: &'g [GoalLine]) -> Result<Vec<Exact<'g>>, AllocError>
-    ensures { IfOk result (λ exacts. exacts.items ≡ filter_map (λ asked. exact_of asked.goal) lines.now) }
+    ensures { IfOk result
+        (λ exacts. exacts.items ≡ filter_map (λ asked. exact_of asked.goal) lines.now) }
 {
     lines
         .iter()
@@ -108,22 +110,22 @@ pub fn exacts_of<'g>(alloc: Global, lines: &'g [GoalLine]) -> Result<Vec<Exact<'
 }
 
 // How what is asked for compares with a stanza.
-fn order_to(exact: &Exact<'_>, found: &Found<'_, '_>) -> Ordering
-    ensures { result ≡ exact_cmp exact.now (exact_at found.now) }
+fn order_to(exact: &Exact<'_>, stanza: &OrderedEntry<'_, '_>) -> Ordering
+    ensures { result ≡ exact_cmp exact.now (exact_at stanza.now) }
 {
-    match name_cmp(exact.name, found.name()) {
-        Ordering::Equal => exact.version.cmp(&found.version()),
+    match name_cmp(exact.name, stanza.name()) {
+        Ordering::Equal => exact.version.cmp(&stanza.version()),
         decided => decided,
     }
 }
 
 /// Whether the stanza is of a version that is asked for. A binary search.
-pub fn is_asked(exacts: &[Exact<'_>], found: &Found<'_, '_>) -> bool
+pub fn is_asked(exacts: &[Exact<'_>], stanza: &OrderedEntry<'_, '_>) -> bool
     requires { IsSorted exact_cmp exacts.now }
-    ensures { result ≡ is_asked exacts.now found.now }
+    ensures { result ≡ is_asked exacts.now stanza.now }
 {
     exacts
-        .binary_search_by(|exact| order_to(exact, found))
+        .binary_search_by(|exact| order_to(exact, stanza))
         .is_ok()
 }
 

@@ -14,8 +14,8 @@ ghost use Rattle.universe_build.specs.declared.error.UniverseError.TheVariants a
 
 use crate::asked::exacts_of;
 use crate::error::UniverseError;
-use crate::walk::admitted;
-use candidates::{Names, Recorded, records_in};
+use crate::walk::pairs_and_candidates;
+use candidates::{NameTable, Recorded, records_in};
 use index::Index;
 use pins::Prefs;
 use rules::{Goal, GoalLine, PAIRS};
@@ -35,7 +35,7 @@ fn named_by(goal: &Goal) -> Option<&[u8]>
     }
 }
 
-fn is_unknown(names: &Names<'_, '_, '_>, goal: &Goal) -> bool
+fn is_unknown(names: &NameTable<'_, '_, '_>, goal: &Goal) -> bool
     ensures { result ≡ is_unknown names.now.known names.now.ordered goal.now }
 {
     match named_by(goal) {
@@ -45,7 +45,7 @@ fn is_unknown(names: &Names<'_, '_, '_>, goal: &Goal) -> bool
 }
 
 /// The line of the first goal that names a package that nothing has.
-pub(crate) fn first_unknown(names: &Names<'_, '_, '_>, lines: &[GoalLine]) -> Option<usize>
+pub(crate) fn first_unknown(names: &NameTable<'_, '_, '_>, lines: &[GoalLine]) -> Option<usize>
     ensures { result ≡ first_unknown names.now.known names.now.ordered lines.now }
 {
     lines
@@ -64,7 +64,7 @@ pub(crate) fn goals_of(alloc: Global, lines: Vec<GoalLine>) -> Result<Vec<Goal>,
 fn starts_of<'a>(alloc: Global, start: &[Recorded<'_, 'a>]) -> Result<Vec<Start<'a>>, AllocError>
     ensures { IfOk result (λ starts. starts.items ≡ starts_of start.now) }
 {
-    start.iter().map(|found| found.start()).collect(alloc)
+    start.iter().map(|entry| entry.start()).collect(alloc)
 }
 
 /// The facts of the records, with a table of their names.
@@ -79,24 +79,27 @@ pub(crate) fn facts_of<'a>(
 }
 
 /// The parts of universes, with the providers of the pairs, to be shared.
-pub(crate) fn shared<'p, 'a>(
+pub(crate) fn share<'p, 'a>(
     alloc: Global,
     pairs: Pairs<'p, 'a>,
     starts: Starts<'a>,
     candidates: Candidates<'a>,
 ) -> Result<Rc<Admitted<'p, 'a>>, AllocError>
     ensures { IfOk result (λ admitted.
-        admitted.value ≡ record { pairs = pairs.entry; starts = starts.entry; candidates = candidates.entry }) }
+        admitted.value
+        ≡ record { pairs = pairs.entry; starts = starts.entry; candidates = candidates.entry }) }
 {
     let admitted = Admitted::new(alloc, pairs, starts, candidates)?;
     Ok(Rc::new(alloc, admitted)?)
 }
 
 // The pairs, unless they are more than are admitted.
-fn bounded<'p, 'a>(pairs: Vec<Pair<'p, 'a>>) -> Result<Pairs<'p, 'a>, UniverseError>
+fn bounded_pairs<'p, 'a>(pairs: Vec<Pair<'p, 'a>>) -> Result<Pairs<'p, 'a>, UniverseError>
     requires { IsStrictlySortedBy pair_cmp pairs.items }
-    ensures ok { IfOk result (λ kept. (kept ≡ pairs.entry.items) × (length pairs.entry.items ≤ most_pairs)) }
-    ensures err { IfErr result (λ e. (e ≡ error.TooLarge) × (most_pairs < length pairs.entry.items)) }
+    ensures ok { IfOk result
+        (λ kept. (kept ≡ pairs.entry.items) × (length pairs.entry.items ≤ most_pairs)) }
+    ensures err { IfErr result
+        (λ e. (e ≡ error.TooLarge) × (most_pairs < length pairs.entry.items)) }
 {
     if pairs.len() > PAIRS {
         return Err(UniverseError::TooLarge);
@@ -105,24 +108,35 @@ fn bounded<'p, 'a>(pairs: Vec<Pair<'p, 'a>>) -> Result<Pairs<'p, 'a>, UniverseEr
 }
 
 // The pairs and the candidates of the goals of these lines over these names, for all versions or not.
-fn chosen<'p, 'a>(
+fn choice<'p, 'a>(
     alloc: Global,
-    names: &Names<'_, 'p, 'a>,
+    names: &NameTable<'_, 'p, 'a>,
     prefs: &Prefs,
     lines: &[GoalLine],
     asks_all_versions: bool,
 ) -> Result<(Pairs<'p, 'a>, Candidates<'a>), UniverseError>
-    ensures ok { (start : List RecordValue) (indices : List IndexValue) → HasDistinctNames start → AreNames start indices names.now
-        → IfOk result (λ chosen. IsBuilt start indices prefs.now lines.now asks_all_versions (universe_with start lines.now chosen.0 chosen.1)) }
-    ensures err { (start : List RecordValue) (indices : List IndexValue) → HasDistinctNames start → AreNames start indices names.now
-        → IfErr result (λ e. IsUniverseFault start indices prefs.now lines.now asks_all_versions e) }
+    ensures ok { (start : List RecordValue) (indices : List IndexValue) → HasDistinctNames start
+        → AreNames start indices names.now
+        → IfOk result
+        (λ choice. IsBuilt start indices prefs.now lines.now asks_all_versions
+        (universe_with start lines.now choice.0 choice.1)) }
+    ensures err { (start : List RecordValue) (indices : List IndexValue) → HasDistinctNames start
+        → AreNames start indices names.now
+        → IfErr result
+        (λ e. IsUniverseFault start indices prefs.now lines.now asks_all_versions e) }
 {
     if let Some(line) = first_unknown(names, lines) {
         return Err(UniverseError::UnknownName(line));
     }
     let asked = exacts_of(alloc, lines)?;
-    let (pairs, candidates) = admitted(alloc, names, prefs, asked.as_slice(), asks_all_versions)?;
-    let pairs = bounded(pairs)?;
+    let (pairs, candidates) = pairs_and_candidates(
+        alloc,
+        names,
+        prefs,
+        asked.as_slice(),
+        asks_all_versions,
+    )?;
+    let pairs = bounded_pairs(pairs)?;
     Ok((pairs, Candidates::new(candidates)))
 }
 
@@ -145,16 +159,20 @@ pub fn build<'p, 'a>(
     asks_all_versions: bool,
 ) -> Result<Universe<'p, 'a>, UniverseError>
     requires { HasDistinctNames (records_of (map (λ r. r.now) start.now)) }
-    ensures ok { IfOk result (λ u. IsBuilt (records_of (map (λ r. r.now) start.now)) (indices_of indices.now) prefs.now goals.items asks_all_versions u) }
-    ensures err { IfErr result (λ e. IsUniverseFault (records_of (map (λ r. r.now) start.now)) (indices_of indices.now) prefs.now goals.items asks_all_versions e) }
+    ensures ok { IfOk result
+        (λ u. IsBuilt (records_of (map (λ r. r.now) start.now))
+        (indices_of indices.now) prefs.now goals.items asks_all_versions u) }
+    ensures err { IfErr result
+        (λ e. IsUniverseFault (records_of (map (λ r. r.now) start.now))
+        (indices_of indices.now) prefs.now goals.items asks_all_versions e) }
 {
     let recorded = records_in(alloc, start)?;
     let starts = facts_of(alloc, recorded.as_slice())?;
-    let names = Names::new(alloc, recorded, indices)?;
-    let (pairs, candidates) = chosen(alloc, &names, prefs, goals.as_slice(), asks_all_versions)?;
+    let names = NameTable::new(alloc, recorded, indices)?;
+    let (pairs, candidates) = choice(alloc, &names, prefs, goals.as_slice(), asks_all_versions)?;
     let goals = goals_of(alloc, goals)?;
     // What is found by names isn't wanted any more, and the table of providers is made without it.
     drop(names);
-    let admitted = shared(alloc, pairs, starts, candidates)?;
+    let admitted = share(alloc, pairs, starts, candidates)?;
     Ok(Universe::new(admitted, goals))
 }

@@ -9,10 +9,10 @@ ghost use Rattle.universe_build.specs.Error.{IsBuilt, IsUniverseFault, most_pair
 ghost use Rattle.universe_build.specs.Listing.{IsListing, are_among, is_among};
 
 use crate::asked::exact_of;
-use crate::built::{facts_of, first_unknown, goals_of, shared};
+use crate::built::{facts_of, first_unknown, goals_of, share};
 use crate::error::UniverseError;
-use crate::walk::admitted;
-use candidates::{Names, records_in};
+use crate::walk::pairs_and_candidates;
+use candidates::{NameTable, records_in};
 use index::Index;
 use pins::Prefs;
 use rules::{Goal, GoalLine, PAIRS};
@@ -26,7 +26,7 @@ use universe::{Admitted, Candidates, Pairs, Universe};
 /// each request whose goals ask with `=` for versions alone that are admitted without them.
 #[derive(Drop)]
 pub struct Listing<'s, 'p, 'a> {
-    names: Names<'s, 'p, 'a>,
+    names: NameTable<'s, 'p, 'a>,
     admitted: Rc<Admitted<'p, 'a>>,
     asks_all_versions: bool,
 }
@@ -59,7 +59,7 @@ fn is_too_large(admitted: &Admitted<'_, '_>) -> bool
 
 impl<'s, 'p, 'a> Listing<'s, 'p, 'a> {
     // What is admitted, shared.
-    fn shared(&self) -> Result<Rc<Admitted<'p, 'a>>, AllocError>
+    fn share(&self) -> Result<Rc<Admitted<'p, 'a>>, AllocError>
         ensures { IfOk result (λ admitted. admitted.value ≡ self.now.admitted) }
     {
         self.admitted.clone()
@@ -75,14 +75,22 @@ impl<'s, 'p, 'a> Listing<'s, 'p, 'a> {
         asks_all_versions: bool,
     ) -> Result<Listing<'s, 'p, 'a>, AllocError>
         requires { HasDistinctNames (records_of (map (λ r. r.now) start.now)) }
-        ensures listing { IfOk result (IsListing (records_of (map (λ r. r.now) start.now)) (indices_of indices.now) prefs.now) }
+        ensures listing { IfOk result
+            (IsListing (records_of (map (λ r. r.now) start.now))
+            (indices_of indices.now) prefs.now) }
         ensures all { IfOk result (λ listing. listing.asks_all_versions ≡ asks_all_versions) }
     {
         let recorded = records_in(alloc, start)?;
         let starts = facts_of(alloc, recorded.as_slice())?;
-        let names = Names::new(alloc, recorded, indices)?;
-        let (pairs, candidates) = admitted(alloc, &names, prefs, &[], asks_all_versions)?;
-        let admitted = shared(
+        let names = NameTable::new(alloc, recorded, indices)?;
+        let (pairs, candidates) = pairs_and_candidates(
+            alloc,
+            &names,
+            prefs,
+            &[],
+            asks_all_versions,
+        )?;
+        let admitted = share(
             alloc,
             Pairs::new(pairs),
             starts,
@@ -118,10 +126,13 @@ impl<'s, 'p, 'a> Listing<'s, 'p, 'a> {
         goals: Vec<GoalLine>,
     ) -> Result<Universe<'p, 'a>, UniverseError>
         requires { are_among self.now.admitted.pairs goals.items ≡ true }
-        ensures ok { (start : List RecordValue) (indices : List IndexValue) (prefs : Preferences) → IsListing start indices prefs self.now
+        ensures ok { (start : List RecordValue) (indices : List IndexValue) (prefs : Preferences)
+            → IsListing start indices prefs self.now
             → IfOk result (IsBuilt start indices prefs goals.items self.now.asks_all_versions) }
-        ensures err { (start : List RecordValue) (indices : List IndexValue) (prefs : Preferences) → IsListing start indices prefs self.now
-            → IfErr result (IsUniverseFault start indices prefs goals.items self.now.asks_all_versions) }
+        ensures err { (start : List RecordValue) (indices : List IndexValue) (prefs : Preferences)
+            → IsListing start indices prefs self.now
+            → IfErr result
+            (IsUniverseFault start indices prefs goals.items self.now.asks_all_versions) }
     {
         if let Some(line) = first_unknown(&self.names, goals.as_slice()) {
             return Err(UniverseError::UnknownName(line));
@@ -130,6 +141,6 @@ impl<'s, 'p, 'a> Listing<'s, 'p, 'a> {
             return Err(UniverseError::TooLarge);
         }
         let goals = goals_of(alloc, goals)?;
-        Ok(Universe::new(self.shared()?, goals))
+        Ok(Universe::new(self.share()?, goals))
     }
 }

@@ -11,38 +11,42 @@ ghost use Rattle.universe_build.specs.ByName.{ArePairs, chosen_pairs, is_chosen,
 ghost use Rattle.universe_build.specs.Choice.{exact_cmp};
 
 use crate::asked::{Exact, is_asked};
-use candidates::{Found, OfName, Offer, Recorded, stanza_of};
+use candidates::{OfName, Offer, OrderedEntry, Recorded, stanza_of};
 use index::IndexEntry;
 use std::alloc::{AllocError, Global};
 use universe::Pair;
 
 // Whether the stanza is of a version that doesn't stand, of a name that isn't held.
-fn is_free(known: &[Recorded<'_, '_>], found: &Found<'_, '_>) -> bool
+fn is_free(known: &[Recorded<'_, '_>], stanza: &OrderedEntry<'_, '_>) -> bool
     requires { IsStrictlySortedBy record_cmp known.now }
-    ensures { result ≡ is_free known.now found.now }
+    ensures { result ≡ is_free known.now stanza.now }
 {
     match known {
         [] => true,
-        [..] => candidates::is_free(known, found.name(), &found.version()),
+        [..] => candidates::is_free(known, stanza.name(), &stanza.version()),
     }
 }
 
 // Whether the candidate is of the version of the stanza.
-fn is_candidate(candidate: Option<&Offer<'_>>, found: &Found<'_, '_>) -> bool
-    ensures { result ≡ option_map_or (is_version_of found.now) (option_copied candidate.entry) false }
+fn is_candidate(candidate: Option<&Offer<'_>>, stanza: &OrderedEntry<'_, '_>) -> bool
+    ensures { result
+        ≡ option_map_or (is_version_of stanza.now) (option_copied candidate.entry) false }
 {
     match candidate {
         None => false,
-        Some(offer) => *offer.version() == found.version(),
+        Some(offer) => *offer.version() == stanza.version(),
     }
 }
 
 // The one of these versions, which ascend, that is the version of the stanza. A binary search.
-fn offer_of<'k, 'a>(versions: &'k [Offer<'a>], found: &Found<'_, '_>) -> Option<&'k Offer<'a>>
+fn offer_of<'k, 'a>(
+    versions: &'k [Offer<'a>],
+    stanza: &OrderedEntry<'_, '_>,
+) -> Option<&'k Offer<'a>>
     requires { IsStrictlySortedBy offer_version_cmp versions.now }
-    ensures { is_some result ≡ list_any (is_version_of found.now) versions.now }
+    ensures { is_some result ≡ list_any (is_version_of stanza.now) versions.now }
 {
-    match versions.binary_search_by(|offer| offer.version().cmp(&found.version())) {
+    match versions.binary_search_by(|offer| offer.version().cmp(&stanza.version())) {
         Ok(place) => versions.get(place),
         Err(_) => None,
     }
@@ -53,13 +57,15 @@ fn is_wanted(
     candidate: Option<&Offer<'_>>,
     versions: &[Offer<'_>],
     asked: &[Exact<'_>],
-    found: &Found<'_, '_>,
+    stanza: &OrderedEntry<'_, '_>,
 ) -> bool
     requires versions { IsStrictlySortedBy offer_version_cmp versions.now }
     requires asked { IsSorted exact_cmp asked.now }
-    ensures { result ≡ is_wanted (option_copied candidate.entry) versions.now asked.now found.now }
+    ensures { result ≡ is_wanted (option_copied candidate.entry) versions.now asked.now stanza.now }
 {
-    is_candidate(candidate, found) || offer_of(versions, found).is_some() || is_asked(asked, found)
+    is_candidate(candidate, stanza)
+        || offer_of(versions, stanza).is_some()
+        || is_asked(asked, stanza)
 }
 
 fn is_chosen(
@@ -67,33 +73,34 @@ fn is_chosen(
     candidate: Option<&Offer<'_>>,
     versions: &[Offer<'_>],
     asked: &[Exact<'_>],
-    found: &Found<'_, '_>,
+    stanza: &OrderedEntry<'_, '_>,
 ) -> bool
     requires known { IsStrictlySortedBy record_cmp known.now }
     requires versions { IsStrictlySortedBy offer_version_cmp versions.now }
     requires asked { IsSorted exact_cmp asked.now }
-    ensures { result ≡ is_chosen known.now (option_copied candidate.entry) versions.now asked.now found.now }
+    ensures { result
+        ≡ is_chosen known.now (option_copied candidate.entry) versions.now asked.now stanza.now }
 {
-    is_free(known, found) && is_wanted(candidate, versions, asked, found)
+    is_free(known, stanza) && is_wanted(candidate, versions, asked, stanza)
 }
 
 // The pair of a stanza, with the priority of its version where it is one of these versions.
-fn listed_pair<'p, 'a>(versions: &[Offer<'_>], found: &Found<'p, 'a>) -> Pair<'p, 'a>
+fn listed_pair<'p, 'a>(versions: &[Offer<'_>], stanza: &OrderedEntry<'p, 'a>) -> Pair<'p, 'a>
     requires { IsStrictlySortedBy offer_version_cmp versions.now }
-    ensures { result ≡ listed_pair found.now }
+    ensures { result ≡ listed_pair stanza.now }
 {
-    let priority = match offer_of(versions, found) {
+    let priority = match offer_of(versions, stanza) {
         None => None,
         Some(offer) => Some(offer.priority()),
     };
-    Pair::listed_alone(found.entry()).with_priority(priority)
+    Pair::listed_alone(stanza.entry()).with_priority(priority)
 }
 
 // The pairs of the stanzas that are chosen.
 fn listed_pairs<'p, 'a>(
     alloc: Global,
     known: &[Recorded<'_, '_>],
-    ordered: &[Found<'p, 'a>],
+    ordered: &[OrderedEntry<'p, 'a>],
     candidate: Option<&Offer<'_>>,
     versions: &[Offer<'_>],
     asked: &[Exact<'_>],
@@ -102,12 +109,13 @@ fn listed_pairs<'p, 'a>(
     requires versions { IsStrictlySortedBy offer_version_cmp versions.now }
     requires asked { IsSorted exact_cmp asked.now }
     ensures { IfOk result (λ pairs. pairs.items
-        ≡ listed_pairs known.now ordered.now (option_copied candidate.entry) versions.now asked.now) }
+        ≡ listed_pairs known.now ordered.now
+        (option_copied candidate.entry) versions.now asked.now) }
 {
     let mut pairs = Vec::new(alloc);
-    for found in ordered {
-        if is_chosen(known, candidate, versions, asked, found) {
-            pairs.push(listed_pair(versions, found))?;
+    for stanza in ordered {
+        if is_chosen(known, candidate, versions, asked, stanza) {
+            pairs.push(listed_pair(versions, stanza))?;
         }
     }
     Ok(pairs)
@@ -115,16 +123,16 @@ fn listed_pairs<'p, 'a>(
 
 // The stanza of the record's version in the indices, if there is one.
 fn stanza_by<'p, 'a>(
-    ordered: &[Found<'p, 'a>],
-    found: &Recorded<'_, 'a>,
+    ordered: &[OrderedEntry<'p, 'a>],
+    entry: &Recorded<'_, 'a>,
 ) -> Option<&'p IndexEntry<'a>>
     requires { IsStrictlySortedBy listed_cmp ordered.now }
-    ensures { option_copied result ≡ standing_stanza ordered.now found.now }
+    ensures { option_copied result ≡ standing_stanza ordered.now entry.now }
 {
-    let Some(version) = found.standing() else {
+    let Some(version) = entry.standing() else {
         return None;
     };
-    match stanza_of(ordered, found.name(), &version) {
+    match stanza_of(ordered, entry.name(), &version) {
         None => None,
         Some(stanza) => Some(stanza.entry()),
     }
@@ -133,14 +141,14 @@ fn stanza_by<'p, 'a>(
 // The pair of the record, if its package stands.
 fn standing_pair<'p, 'a>(
     alloc: Global,
-    ordered: &[Found<'p, 'a>],
-    found: &Recorded<'_, 'a>,
+    ordered: &[OrderedEntry<'p, 'a>],
+    entry: &Recorded<'_, 'a>,
 ) -> Result<Option<Pair<'p, 'a>>, AllocError>
     requires { IsStrictlySortedBy listed_cmp ordered.now }
-    ensures { IfOk result (λ pair. pair ≡ standing_pair ordered.now found.now) }
+    ensures { IfOk result (λ pair. pair ≡ standing_pair ordered.now entry.now) }
 {
-    let listed = stanza_by(ordered, found);
-    match found.standing_pkg(alloc)? {
+    let listed = stanza_by(ordered, entry);
+    match entry.standing_pkg(alloc)? {
         None => Ok(None),
         Some(pkg) => Ok(Some(Pair::standing(alloc, pkg, listed)?)),
     }
@@ -150,14 +158,14 @@ fn standing_pair<'p, 'a>(
 fn standing_pairs<'p, 'a>(
     alloc: Global,
     known: &[Recorded<'_, 'a>],
-    ordered: &[Found<'p, 'a>],
+    ordered: &[OrderedEntry<'p, 'a>],
 ) -> Result<Vec<Pair<'p, 'a>>, AllocError>
     requires { IsStrictlySortedBy listed_cmp ordered.now }
     ensures { IfOk result (λ pairs. pairs.items ≡ standing_pairs ordered.now known.now) }
 {
     let mut pairs = Vec::new(alloc);
-    for found in known {
-        if let Some(pair) = standing_pair(alloc, ordered, found)? {
+    for entry in known {
+        if let Some(pair) = standing_pair(alloc, ordered, entry)? {
             pairs.push(pair)?;
         }
     }
@@ -189,11 +197,11 @@ pub fn pairs_of<'p, 'a>(
     ensures { IfOk result (λ pairs. ArePairs
         (chosen_pairs own.now (option_copied candidate.entry) versions.now asked.now) pairs.items) }
 {
-    let mut pairs = standing_pairs(alloc, own.known(), own.ordered())?;
+    let mut pairs = standing_pairs(alloc, own.records(), own.stanzas())?;
     let mut listed = listed_pairs(
         alloc,
-        own.known(),
-        own.ordered(),
+        own.records(),
+        own.stanzas(),
         candidate,
         versions,
         asked,

@@ -9,7 +9,7 @@ ghost use Rattle.universe_build.specs.Choice.{candidates_at, exact_cmp};
 
 use crate::asked::Exact;
 use crate::pairs::pairs_of;
-use candidates::{Names, OfName, Offer, candidate_of};
+use candidates::{NameTable, OfName, Offer, candidate_of};
 use pins::Prefs;
 use std::alloc::{AllocError, Global};
 use universe::{Candidate, Pair};
@@ -29,7 +29,8 @@ fn candidates_of<'a>(
     name: &'a [u8],
     candidate: Option<&Offer<'a>>,
 ) -> Result<Vec<Candidate<'a>>, AllocError>
-    ensures { IfOk result (λ candidates. candidates.items ≡ candidates_at name.now (option_copied candidate.entry)) }
+    ensures { IfOk result
+        (λ candidates. candidates.items ≡ candidates_at name.now (option_copied candidate.entry)) }
 {
     let mut candidates = Vec::new(alloc);
     if let Some(offer) = candidate {
@@ -48,10 +49,12 @@ fn of_name<'p, 'a>(
 ) -> Result<(Vec<Pair<'p, 'a>>, Vec<Candidate<'a>>), AllocError>
     requires asked { IsSorted exact_cmp asked.now }
     requires own { IsOfName own.now }
-    ensures ascending { IfOk result (λ found. AreAscending found.0.items found.1.items) }
-    ensures named { IfOk result (λ found. AreNamed own.now.name found.0.items found.1.items) }
+    ensures ascending { IfOk result (λ parts. AreAscending parts.0.items parts.1.items) }
+    ensures named { IfOk result (λ parts. AreNamed own.now.name parts.0.items parts.1.items) }
     ensures all { (given : Given) → IsGiven given own.now asked.now asks_all_versions
-        → IfOk result (λ found. AreOfName (given_inputs given prefs.now) own.now.name found.0.items found.1.items) }
+        → IfOk result
+        (λ parts. AreOfName
+        (given_inputs given prefs.now) own.now.name parts.0.items parts.1.items) }
 {
     let offers = own.eligible(alloc, prefs)?;
     let candidate = candidate_of(offers.as_slice());
@@ -63,17 +66,18 @@ fn of_name<'p, 'a>(
 
 /// The admitted pairs and the candidates over these names, by these preferences, where the versions that are asked for are
 /// given in order, for all versions or not. For each name what `OfName::eligible` costs. Memory alone can fail.
-pub fn admitted<'p, 'a>(
+pub fn pairs_and_candidates<'p, 'a>(
     alloc: Global,
-    names: &Names<'_, 'p, 'a>,
+    names: &NameTable<'_, 'p, 'a>,
     prefs: &Prefs,
     asked: &[Exact<'_>],
     asks_all_versions: bool,
 ) -> Result<(Vec<Pair<'p, 'a>>, Vec<Candidate<'a>>), AllocError>
     requires { IsSorted exact_cmp asked.now }
-    ensures ascending { IfOk result (λ found. AreAscending found.0.items found.1.items) }
+    ensures ascending { IfOk result (λ parts. AreAscending parts.0.items parts.1.items) }
     ensures all { (given : Given) → AreGiven given names.now asked.now asks_all_versions
-        → IfOk result (λ found. AreAdmitted (given_inputs given prefs.now) found.0.items found.1.items) }
+        → IfOk result
+        (λ parts. AreAdmitted (given_inputs given prefs.now) parts.0.items parts.1.items) }
 {
     let mut pairs = Vec::new(alloc);
     let mut candidates = Vec::new(alloc);

@@ -25,12 +25,12 @@ candidate_cmp-tied name candidate other one two = (Equal-is (candidate_cmp candi
 pub searched_candidate : (candidates : List Candidate) (name : List ℕ) (i : ℕ) → IsStrictlySortedBy candidate_cmp candidates
     → IsSearchInRange (Ok i) (length candidates) → IsBinarySearchResult (λ (candidate : Candidate). name_cmp candidate.name name) candidates (Ok i)
     → slice_get candidates i ≡ find (λ candidate. bytes_eq candidate.name name) candidates
-searched_candidate candidates name i ascending within found =
+searched_candidate candidates name i ascending within result_is =
     searched_find (λ (candidate : Candidate). bytes_eq candidate.name name) (λ (candidate : Candidate). name_cmp candidate.name name) candidates i
     (λ candidate. is_eq-slice_cmp candidate.name name)
     (λ candidate other here there one two.
     sorted-one candidate_cmp_total candidates ascending candidate other here there (candidate_cmp-tied name candidate other one two))
-    within found
+    within result_is
 
 -- a candidate without a version
 abbrev unversioned : List ℕ → Candidate
@@ -40,8 +40,8 @@ unversioned name = record { name = name; version = [] }
 pub searched_no_candidate : (candidates : List Candidate) (name : List ℕ) (i : ℕ) → IsStrictlySortedBy candidate_cmp candidates
     → IsSearchInRange (Err i) (length candidates) → IsBinarySearchResult (λ (candidate : Candidate). name_cmp candidate.name name) candidates (Err i)
     → None ≡ find (λ candidate. bytes_eq candidate.name name) candidates
-searched_no_candidate candidates name i ascending within found =
+searched_no_candidate candidates name i ascending within result_is =
     sym (searched_none (λ (candidate : Candidate). bytes_eq candidate.name name) (λ (candidate : Candidate). name_cmp candidate.name name) candidates i
     (λ candidate. is_eq-slice_cmp candidate.name name)
     (searchable_from_sorted candidate_cmp_total (λ (candidate : Candidate). candidate) candidates (unversioned name)
-    (not_back candidate_cmp candidate_cmp_total.antisymm candidates ascending)) within found)
+    (not_back candidate_cmp candidate_cmp_total.antisymm candidates ascending)) within result_is)

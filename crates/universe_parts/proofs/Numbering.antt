@@ -43,14 +43,14 @@ not_placed p xs is = rw (is, le-ltb (length xs) (length xs) (omega arith)) refl
 pub searched_place : (pairs : List Pair) (name version : List ℕ) (i : ℕ) → IsStrictlySortedBy pair_cmp pairs
     → IsSearchInRange (Ok i) (length pairs) → IsBinarySearchResult (λ (pair : Pair). pkg_order pair.pkg name version) pairs (Ok i)
     → Some i ≡ place_among pairs name version
-searched_place pairs name version i ascending within found =
+searched_place pairs name version i ascending within result_is =
     placed test pairs i within (first_place test pairs i within here before)
   where
     test : Pair → Bool
     test pair = is_of name version pair.pkg
 
     here : (d : Pair) → test (get_or pairs i d) ≡ true
-    here d = sym (pkg_order-ties name version (get_or pairs i d).pkg) ∙ ap is_eq (found d)
+    here d = sym (pkg_order-ties name version (get_or pairs i d).pkg) ∙ ap is_eq (result_is d)
 
     before : (k : ℕ) (d : Pair) → k < i → test (get_or pairs k d) ≡ false
     before k d below = elim (cases_Bool (test (get_or pairs k d))) [
@@ -69,8 +69,8 @@ searched_place pairs name version i ascending within found =
 pub searched_no_place : (pairs : List Pair) (name version : List ℕ) (i : ℕ) → IsStrictlySortedBy pair_cmp pairs
     → IsSearchInRange (Err i) (length pairs) → IsBinarySearchResult (λ (pair : Pair). pkg_order pair.pkg name version) pairs (Err i)
     → None ≡ place_among pairs name version
-searched_no_place pairs name version i ascending within found = not_placed test pairs (no_place test pairs
-    (find-none test pairs (sym (searched_no_pair pairs name version i ascending within found))))
+searched_no_place pairs name version i ascending within result_is = not_placed test pairs (no_place test pairs
+    (find-none test pairs (sym (searched_no_pair pairs name version i ascending within result_is))))
   where
     test : Pair → Bool
     test pair = is_of name version pair.pkg

@@ -31,9 +31,9 @@ one_pair pairs name version ascending pair other one two of of' = sorted-one pai
 pub searched_pair : (pairs : List Pair) (name version : List ℕ) (i : ℕ) → IsStrictlySortedBy pair_cmp pairs
     → IsSearchInRange (Ok i) (length pairs) → IsBinarySearchResult (λ (pair : Pair). pkg_order pair.pkg name version) pairs (Ok i)
     → slice_get pairs i ≡ find (λ pair. is_of name version pair.pkg) pairs
-searched_pair pairs name version i ascending within found =
+searched_pair pairs name version i ascending within result_is =
     searched_find (λ (pair : Pair). is_of name version pair.pkg) (λ (pair : Pair). pkg_order pair.pkg name version) pairs i
-    (λ pair. pkg_order-ties name version pair.pkg) (λ pair other. one_pair pairs name version ascending pair other) within found
+    (λ pair. pkg_order-ties name version pair.pkg) (λ pair other. one_pair pairs name version ascending pair other) within result_is
 
 -- a pair without relations
 abbrev bare : List ℕ → List ℕ → Pair
@@ -43,18 +43,18 @@ bare name version = record { pkg = record { name = name; version = version; rela
 pub searched_no_pair : (pairs : List Pair) (name version : List ℕ) (i : ℕ) → IsStrictlySortedBy pair_cmp pairs
     → IsSearchInRange (Err i) (length pairs) → IsBinarySearchResult (λ (pair : Pair). pkg_order pair.pkg name version) pairs (Err i)
     → None ≡ find (λ pair. is_of name version pair.pkg) pairs
-searched_no_pair pairs name version i ascending within found =
+searched_no_pair pairs name version i ascending within result_is =
     sym (searched_none (λ (pair : Pair). is_of name version pair.pkg) (λ (pair : Pair). pkg_order pair.pkg name version) pairs i
     (λ pair. pkg_order-ties name version pair.pkg)
     (searchable_from_sorted pair_cmp_total (λ (pair : Pair). pair) pairs (bare name version)
-    (not_back pair_cmp pair_cmp_total.antisymm pairs ascending)) within found)
+    (not_back pair_cmp pair_cmp_total.antisymm pairs ascending)) within result_is)
 
 -- a binary search tells whether a pair is of the version
 pub searched_any_pair : (pairs : List Pair) (name version : List ℕ) (r : Result ℕ ℕ) → IsStrictlySortedBy pair_cmp pairs
     → IsSearchInRange r (length pairs) → IsBinarySearchResult (λ (pair : Pair). pkg_order pair.pkg name version) pairs r
     → is_ok r ≡ list_any (λ pair. is_of name version pair.pkg) pairs
-searched_any_pair pairs name version r ascending within found =
+searched_any_pair pairs name version r ascending within result_is =
     searched_any (λ (pair : Pair). is_of name version pair.pkg) (λ (pair : Pair). pkg_order pair.pkg name version) pairs r
     (λ pair. pkg_order-ties name version pair.pkg)
     (searchable_from_sorted pair_cmp_total (λ (pair : Pair). pair) pairs (bare name version)
-    (not_back pair_cmp pair_cmp_total.antisymm pairs ascending)) within found
+    (not_back pair_cmp pair_cmp_total.antisymm pairs ascending)) within result_is

@@ -15,8 +15,8 @@ use mathlib.Core.Logic.{inl, inr}
 
 -- what is found is an element that passes
 pub find-some : {X : Type 0} (p : X → Bool) (xs : List X) (x : X) → find p xs ≡ Some x → Contains xs x × (p x ≡ true)
-find-some p [] x found = absurd (let e : None ≡ Some x = found in cc)
-find-some {X} p (y ∷ ys) x found = at (p y) refl found (find-some p ys x)
+find-some p [] x is = absurd (let e : None ≡ Some x = is in cc)
+find-some {X} p (y ∷ ys) x is = at (p y) refl is (find-some p ys x)
   where
     at : (b : Bool) → p y ≡ b → cond b (Some y) (find p ys) ≡ Some x
         → (find p ys ≡ Some x → Contains ys x × (p x ≡ true)) → Contains (y ∷ ys) x × (p x ≡ true)
@@ -55,7 +55,7 @@ find-exists {X} p xs x within passes = at (find p xs) refl
   where
     at : (o : Option X) → find p xs ≡ o → (y : X) × (find p xs ≡ Some y)
     at None none = absurd (let e : p x ≡ false = find-none p xs none x within in cc)
-    at (Some y) found = (y, found)
+    at (Some y) is = (y, is)
 
 -- two elements of a strictly sorted list that tie are one
 pub sorted-one : {X : Type 0} {R : X → X → Ordering} (o : IsTotalOrder R) (xs : List X) → IsStrictlySortedBy R xs

@@ -17,20 +17,20 @@ use mathlib.Core.Logic.{inl, inr}
 pub searched_any : {X : Type 0} (test : X → Bool) (ord : X → Ordering) (xs : List X) (r : Result ℕ ℕ)
     → ((x : X) → is_eq (ord x) ≡ test x) → IsNonDecreasingBy (λ x. ordering_index (ord x)) xs
     → IsSearchInRange r (length xs) → IsBinarySearchResult ord xs r → is_ok r ≡ list_any test xs
-searched_any {X} test ord xs (Ok i) same rises within found = sym (some xs within found)
+searched_any {X} test ord xs (Ok i) same rises within result_is = sym (some xs within result_is)
   where
     some : (ys : List X) → i < length ys → ((d : X) → ord (get_or ys i d) ≡ Equal) → list_any test ys ≡ true
-    some [] within found = absurd (omega arith)
-    some (y ∷ ys) within found = list_any-from_contains test (y ∷ ys) (get_or (y ∷ ys) i y)
+    some [] within result_is = absurd (omega arith)
+    some (y ∷ ys) within result_is = list_any-from_contains test (y ∷ ys) (get_or (y ∷ ys) i y)
         (Contains-get_or (y ∷ ys) i y within)
-        (sym (same (get_or (y ∷ ys) i y)) ∙ ap is_eq (found y))
-searched_any {X} test ord xs (Err i) same rises within found =
+        (sym (same (get_or (y ∷ ys) i y)) ∙ ap is_eq (result_is y))
+searched_any {X} test ord xs (Err i) same rises within result_is =
     sym (false_from_ne_true (list_any test xs) (λ some.
     Any-elim' (Any-from_list_any test xs some)))
   where
     parts : ((k : ℕ) (d : X) → 0 ≤ k → k < i → ord (get_or xs k d) ≡ Less)
         × ((k : ℕ) (d : X) → i ≤ k → k < length xs → ord (get_or xs k d) ≡ Greater)
-    parts = found rises
+    parts = result_is rises
 
     unlike : (x : X) → test x ≡ true → (o : Ordering) → is_eq o ≡ false → ord x ≡ o → ⊥
     unlike x passes o other is =
@@ -43,12 +43,12 @@ searched_any {X} test ord xs (Err i) same rises within found =
     ]
 
 -- a place that is within has an element
-pub slice_get-found : {X : Type 0} (P : X → Type 0) (xs : List X) (i : ℕ) → i < length xs → ((d : X) → P (get_or xs i d))
+pub slice_get-holds : {X : Type 0} (P : X → Type 0) (xs : List X) (i : ℕ) → i < length xs → ((d : X) → P (get_or xs i d))
     → (x : X) × (slice_get xs i ≡ Some x) × Contains xs x × P x
-slice_get-found P [] i within holds = absurd (omega arith)
-slice_get-found P (x ∷ xs) zero within holds = (x, refl, Contains-head x xs, holds x)
-slice_get-found {X} P (x ∷ xs) (suc i) within holds =
-    let later = slice_get-found P xs i (omega arith) (λ d. holds d) in
+slice_get-holds P [] i within holds = absurd (omega arith)
+slice_get-holds P (x ∷ xs) zero within holds = (x, refl, Contains-head x xs, holds x)
+slice_get-holds {X} P (x ∷ xs) (suc i) within holds =
+    let later = slice_get-holds P xs i (omega arith) (λ d. holds d) in
     (later.0, later.1, Contains-rest x xs later.0 later.2, later.3)
 
 -- the element at the place that a binary search finds is the one that passes, where no other does
@@ -56,8 +56,8 @@ pub searched_find : {X : Type 0} (test : X → Bool) (ord : X → Ordering) (xs 
     → ((x : X) → is_eq (ord x) ≡ test x)
     → ((x y : X) → Contains xs x → Contains xs y → test x ≡ true → test y ≡ true → x ≡ y)
     → i < length xs → ((d : X) → ord (get_or xs i d) ≡ Equal) → slice_get xs i ≡ find test xs
-searched_find test ord xs i same one within found =
-    let at = slice_get-found (λ x. ord x ≡ Equal) xs i within found in
+searched_find test ord xs i same one within result_is =
+    let at = slice_get-holds (λ x. ord x ≡ Equal) xs i within result_is in
     let passes : test at.0 ≡ true = sym (same at.0) ∙ ap is_eq at.3 in
     let first = find-exists test xs at.0 at.2 passes in
     let there = find-some test xs first.0 first.1 in
@@ -67,13 +67,13 @@ searched_find test ord xs i same one within found =
 pub searched_none : {X : Type 0} (test : X → Bool) (ord : X → Ordering) (xs : List X) (i : ℕ)
     → ((x : X) → is_eq (ord x) ≡ test x) → IsNonDecreasingBy (λ x. ordering_index (ord x)) xs
     → IsSearchInRange (Err i) (length xs) → IsBinarySearchResult ord xs (Err i) → find test xs ≡ None
-searched_none {X} test ord xs i same rises within found = at (find test xs) refl
+searched_none {X} test ord xs i same rises within result_is = at (find test xs) refl
   where
     at : (o : Option X) → find test xs ≡ o → find test xs ≡ None
     at None none = none
     at (Some x) some =
         let there = find-some test xs x some in
-        absurd (let e : false ≡ true = searched_any test ord xs (Err i) same rises within found
+        absurd (let e : false ≡ true = searched_any test ord xs (Err i) same rises within result_is
         ∙ list_any-from_contains test xs x there.0 there.1 in cc)
 
 -- what a place that is within gives is the element there
@@ -88,5 +88,5 @@ got {A} {X} f o xs i within some is = at (option_map f o) (some-map f o some) is
     at : (p : Option X) → IsSome p → ((d : X) → unwrap_or p d ≡ get_or xs i d) → p ≡ slice_get xs i
     at None none by = absurd (let e : false ≡ true = none in cc)
     at (Some x) here by =
-        let there = slice_get-found (λ (y : X). x ≡ y) xs i within (λ d. by d) in
+        let there = slice_get-holds (λ (y : X). x ≡ y) xs i within (λ d. by d) in
         ap Some there.3 ∙ sym there.1

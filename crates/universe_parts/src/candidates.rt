@@ -44,7 +44,8 @@ fn candidate_among<'k, 'a>(
     name: &[u8],
 ) -> Option<&'k Candidate<'a>>
     requires { IsStrictlySortedBy candidate_cmp candidates.now }
-    ensures { option_copied result ≡ find (λ candidate. bytes_eq candidate.name name.now) candidates.now }
+    ensures { option_copied result
+        ≡ find (λ candidate. bytes_eq candidate.name name.now) candidates.now }
 {
     match candidates.binary_search_by(|candidate| order_to(candidate, name)) {
         Ok(place) => candidates.get(place),
@@ -71,7 +72,8 @@ impl<'a> Candidates<'a> {
 
     /// The candidate of the name, if it has one. A binary search.
     pub fn of(&self, name: &[u8]) -> Option<&Candidate<'a>>
-        ensures { option_copied result ≡ find (λ candidate. bytes_eq candidate.name name.now) self.now }
+        ensures { option_copied result
+            ≡ find (λ candidate. bytes_eq candidate.name name.now) self.now }
     {
         candidate_among(self.candidates.as_slice(), name)
     }

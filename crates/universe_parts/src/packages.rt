@@ -38,7 +38,7 @@ impl<'u, 'a> CountingPkg<'u, 'a> {
                 lent: Some(pkg),
                 read: None,
             }),
-            None => match pair.listed() {
+            None => match pair.index_entry() {
                 Some(listed) => Ok(CountingPkg {
                     lent: None,
                     read: Some(listed.pkg(alloc)?),

@@ -47,7 +47,8 @@ impl<'p, 'a> Pair<'p, 'a> {
         pkg: Pkg<'a>,
         listed: Option<&'p IndexEntry<'a>>,
     ) -> Result<Pair<'p, 'a>, AllocError>
-        ensures { IfOk result (λ pair. pair ≡ record { pkg = pkg.entry; listed = option_copied listed.entry }) }
+        ensures { IfOk result
+            (λ pair. pair ≡ record { pkg = pkg.entry; listed = option_copied listed.entry }) }
     {
         let standing = Some(Box::new(alloc, pkg)?);
         Ok(Pair {
@@ -123,7 +124,7 @@ impl<'p, 'a> Pair<'p, 'a> {
     }
 
     /// The stanza of the pair in the indices, if there is one.
-    pub fn listed(&self) -> Option<&'p IndexEntry<'a>>
+    pub fn index_entry(&self) -> Option<&'p IndexEntry<'a>>
         ensures { option_copied result ≡ self.now.listed }
     {
         self.listed

@@ -121,7 +121,7 @@ impl<'p, 'a> Pairs<'p, 'a> {
     {
         match pair_of(self.pairs.as_slice(), name, version) {
             None => None,
-            Some(pair) => pair.listed(),
+            Some(pair) => pair.index_entry(),
         }
     }
 }

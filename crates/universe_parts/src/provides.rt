@@ -38,7 +38,7 @@ impl<'u, 'a> CountingProvides<'u, 'a> {
                 lent: Some(pkg.provides()),
                 read: Vec::new(alloc),
             }),
-            None => match pair.listed() {
+            None => match pair.index_entry() {
                 Some(listed) => Ok(CountingProvides {
                     lent: None,
                     read: listed.provides(alloc)?,

@@ -33,7 +33,8 @@ impl<'a> Model for Starts<'a> {
 // The names of the facts, in their order.
 fn names_of<'a>(alloc: Global, starts: &[Start<'a>]) -> Result<IndexSet<&'a [u8]>, AllocError>
     requires { HaveDistinctNames starts.now }
-    ensures { IfOk result (λ names. map (λ name. name.now) names.keys ≡ map (λ start. start.name) starts.now) }
+    ensures { IfOk result
+        (λ names. map (λ name. name.now) names.keys ≡ map (λ start. start.name) starts.now) }
 {
     let mut names = IndexSet::new(alloc);
     for start in starts {

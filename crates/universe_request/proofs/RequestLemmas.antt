@@ -10,7 +10,7 @@ use Rattle.rules.specs.declared.goal.GoalLine.{GoalLine}
 -- a goal that is put before others stands behind those so far
 put_goals_more : (goals : List GoalLine) (goal : GoalLine) (later : Result (List GoalLine) RequestFault)
     → put_goals (goals ++ goal ∷ []) later ≡ put_goals goals (put_goal (Ok goal) later)
-put_goals_more goals goal (Ok later) = ap (λ found. Ok found) (append_assoc goals (goal ∷ []) later)
+put_goals_more goals goal (Ok later) = ap (λ list. Ok list) (append_assoc goals (goal ∷ []) later)
 put_goals_more goals goal (Err fault) = refl
 
 -- the refusal of a line is the refusal of all

@@ -69,8 +69,10 @@ fn asks_all_versions(text: &[u8]) -> bool
 // The goals of all lines.
 fn read_lines(alloc: Global, text: &[u8], arch: &[u8]) -> Result<Vec<GoalLine>, RequestError>
     requires { length text.now ≤ TEXT_BYTES }
-    ensures ok { IfOk result (λ goals. read_lines arch.now 1 1 (lines_of text.now) ≡ Ok goals.items) }
-    ensures err { IfErr result (λ e. IsRequestFault e (read_lines arch.now 1 1 (lines_of text.now))) }
+    ensures ok { IfOk result
+        (λ goals. read_lines arch.now 1 1 (lines_of text.now) ≡ Ok goals.items) }
+    ensures err { IfErr result
+        (λ e. IsRequestFault e (read_lines arch.now 1 1 (lines_of text.now))) }
 {
     let mut goals = Vec::new(alloc);
     let mut line = 0;

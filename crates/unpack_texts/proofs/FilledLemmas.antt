@@ -29,14 +29,14 @@ at_set (y ∷ xs) zero x less = refl
 at_set (y ∷ xs) (suc i) x less = at_set xs i x (omega arith)
 
 -- what is at a place after a write is what was written, or what was there
-after_set : {A : Type 0} (xs : List A) (i place : ℕ) (x found : A) → slice_get (set xs i x) place ≡ Some found
-    → (slice_get xs place ≡ Some found) ⊎ ((i ≡ place) × (found ≡ x))
-after_set [] i place x found is = inl is
-after_set (y ∷ xs) zero zero x found is = inr (refl, cc)
-after_set (y ∷ xs) zero (suc place) x found is = inl is
-after_set (y ∷ xs) (suc i) zero x found is = inl is
-after_set (y ∷ xs) (suc i) (suc place) x found is =
-    ⊎_elim (λ was. inl was) (λ now. inr (ap (λ n. suc n) now.0, now.1)) (after_set xs i place x found is)
+after_set : {A : Type 0} (xs : List A) (i place : ℕ) (x value : A) → slice_get (set xs i x) place ≡ Some value
+    → (slice_get xs place ≡ Some value) ⊎ ((i ≡ place) × (value ≡ x))
+after_set [] i place x value is = inl is
+after_set (y ∷ xs) zero zero x value is = inr (refl, cc)
+after_set (y ∷ xs) zero (suc place) x value is = inl is
+after_set (y ∷ xs) (suc i) zero x value is = inl is
+after_set (y ∷ xs) (suc i) (suc place) x value is =
+    ⊎_elim (λ was. inl was) (λ now. inr (ap (λ n. suc n) now.0, now.1)) (after_set xs i place x value is)
 
 -- a text stays where another is put, or is the other
 kept_set : (places : List (Option (List ℕ))) (i place : ℕ) (text : List ℕ) → HasText places place → HasText (set places i (Some text)) place
@@ -60,10 +60,10 @@ filled_one : (B : WantedStanza → List ℕ → Type 0) (places : List (Option (
     → IsFilled B (one ∷ []) places (set places one.step (Some text))
 filled_one B places one text less belongs = record {
   size = length-set places one.step (Some text);
-  each = λ place found is. ⊎_elim (λ was. inl was)
-      (λ now. inr (Any-intro (λ o. (o.step ≡ place) × B o found) (one ∷ []) one (Contains-head one [])
+  each = λ place value is. ⊎_elim (λ was. inl was)
+      (λ now. inr (Any-intro (λ o. (o.step ≡ place) × B o value) (one ∷ []) one (Contains-head one [])
       (now.0, subst (λ (t : List ℕ). B one t) (cc (now.1)) belongs)))
-      (after_set places one.step place (Some text) (Some found) is);
+      (after_set places one.step place (Some text) (Some value) is);
   every = All-cons (λ o. HasText (set places one.step (Some text)) o.step) one [] (text, at_set places one.step (Some text) less)
       (All-nil (λ o. HasText (set places one.step (Some text)) o.step));
   kept = λ place has. kept_set places one.step place text has;

@@ -2,7 +2,7 @@
 use Rattle.std.proofs.Common.{◌≡◌, ◌+◌, ◌<◌, ◌≤◌, ℕ, true, false, List, [], ◌∷◌, ◌++◌, length, map, Option, None, Some, Ok, Err, refl, sym, ap, ◌∙◌, arith, length-append, is_some}
 use Rattle.stanza.specs.Reading.{GoesOn, Reaches, Reading, to_read}
 use Rattle.stanza.specs.Stanza.{StanzaText}
-use Rattle.stanza.specs.declared.error.ReadError.{ReadError}
+use Rattle.stanza.specs.declared.error.ReaderError.{ReaderError}
 use Rattle.unpack_texts.specs.Fetched.{EndsWith, HasRead, IsStanzaAt, Items}
 
 -- two stanzas with as many before them are one
@@ -15,7 +15,7 @@ same-place (x ∷ before) (y ∷ front) s t later rest e n =
     same-place before front s t later rest (cc) (omega arith)
 
 -- behind an error no stanza stands
-pub none-behind-error : (before front : List StanzaText) (error : ReadError) (s : StanzaText) (later : Items)
+pub none-behind-error : (before front : List StanzaText) (error : ReaderError) (s : StanzaText) (later : Items)
     → map Ok before ++ Err error ∷ [] ≡ map Ok front ++ Ok s ∷ later → length before ≤ length front → ⊥
 none-behind-error [] [] error s later e n = cc
 none-behind-error [] (y ∷ front) error s later e n = cc
@@ -38,25 +38,25 @@ with-one-more [] s later = refl
 with-one-more (x ∷ before) s later = ap (λ items. Ok x ∷ items) (with-one-more before s later)
 
 -- where a stanza was reached, it was the first that was left
-reached-one : (found : Option StanzaText) (items later : Items) → Reaches found items later → is_some found ≡ true
-    → (s : StanzaText) × (found ≡ Some s) × (items ≡ Ok s ∷ later)
+reached-one : (there : Option StanzaText) (items later : Items) → Reaches there items later → is_some there ≡ true
+    → (s : StanzaText) × (there ≡ Some s) × (items ≡ Ok s ∷ later)
 reached-one None items later reaches some = cc
 reached-one (Some s) items later reaches some = (s, refl, reaches)
 
 -- where none was reached, none was left
-reached-none : (found : Option StanzaText) (items later : Items) → Reaches found items later → is_some found ≡ false → items ≡ []
+reached-none : (there : Option StanzaText) (items later : Items) → Reaches there items later → is_some there ≡ false → items ≡ []
 reached-none None items later reaches none = reaches.0
 reached-none (Some s) items later reaches none = cc
 
 -- behind the stanzas that were read comes this one
 then-read : (items : Items) (n : ℕ) (old new : Reading) (left more : List ℕ) (s : StanzaText) → HasRead items n old left
     → new.stanza ≡ Some s → to_read old left ≡ Ok s ∷ to_read new more → HasRead items (n + 1) new more
-then-read items n old new left more s read found first = record {
+then-read items n old new left more s read reached_is first = record {
   before = read.before ++ s ∷ [];
   is = read.is ∙ ap (λ (rest : Items). map Ok read.before ++ rest) first ∙ sym (with-one-more read.before s (to_read new more));
   count = omega (arith, read.count, length-append read.before (s ∷ []));
-  last = rw found (read.before, refl);
-  some = λ _. rw found refl;
+  last = rw reached_is (read.before, refl);
+  some = λ _. rw reached_is refl;
 }
 
 -- one more stanza was read
@@ -75,7 +75,7 @@ none-later items n number old new left more read on none less s there =
     (ap (λ (rest : Items). map Ok read.before ++ rest) (sym over) ∙ sym read.is ∙ there.is) (omega (arith, read.count, there.count))
 
 -- where a refusal comes, no stanza has a later number
-pub none-refused : (items : Items) (n number : ℕ) (old : Reading) (left : List ℕ) (error : ReadError) → HasRead items n old left
+pub none-refused : (items : Items) (n number : ℕ) (old : Reading) (left : List ℕ) (error : ReaderError) → HasRead items n old left
     → to_read old left ≡ Err error ∷ [] → n < number → (s : StanzaText) → IsStanzaAt items number s → ⊥
 none-refused items n number old left error read refused less s there =
     none-behind-error read.before there.before error s there.later

@@ -27,14 +27,14 @@ none_there zero place text is = cc
 none_there (suc count) zero text is = cc
 none_there (suc count) (suc place) text is = none_there count place text is
 
-module _ (arch : List ℕ) (found : ℕ → List ℕ → Found) (files : List (List ℕ)) (u : Universe) (steps : List Step) (wanted : List WantedStanza)
-    (places : List (Option (List ℕ))) (are : AreWanted u steps wanted) (put : IsFilled (Belongs arch found files) wanted (replicate (length steps) None) places) where
+module _ (arch : List ℕ) (index_texts : ℕ → List ℕ → Found) (files : List (List ℕ)) (u : Universe) (steps : List Step) (wanted : List WantedStanza)
+    (places : List (Option (List ℕ))) (are : AreWanted u steps wanted) (put : IsFilled (Belongs arch index_texts files) wanted (replicate (length steps) None) places) where
   -- a text that is at a place is that of a stanza that its step unpacks
   belongs_there : (place : ℕ) (text : List ℕ) → slice_get places place ≡ Some (Some text)
-      → (listed : IndexPackage) × Unpacks u steps place listed × IsTextOf arch found files listed text
+      → (listed : IndexPackage) × Unpacks u steps place listed × IsTextOf arch index_texts files listed text
   belongs_there place text there = ⊎_elim
       (λ old. absurd (none_there (length steps) place text old))
-      (λ some. (let B : WantedStanza → Type 0 = λ one. (one.step ≡ place) × Belongs arch found files one text in
+      (λ some. (let B : WantedStanza → Type 0 = λ one. (one.step ≡ place) × Belongs arch index_texts files one text in
       let unpacks : IsWanted u steps some.1 = All-contains (IsWanted u steps) wanted some.1 are.each (Any-contains B wanted some) in
       (some.1.listed, subst (λ (n : ℕ). Unpacks u steps n some.1.listed) some.4.0 unpacks, some.4.1)))
       (put.each place text there)
@@ -47,7 +47,7 @@ module _ (arch : List ℕ) (found : ℕ → List ℕ → Found) (files : List (L
       (All-contains (λ one. HasText places one.step) wanted some.1 put.every (Any-contains (λ one. one.step ≡ place) wanted some))
 
   text_for : (place : ℕ) (step : Step) (text : Option (List ℕ)) (listed : Option IndexPackage) → slice_get steps place ≡ Some step → slice_get places place ≡ Some text
-      → listed_for u step ≡ listed → MatchOption listed (text ≡ None) (λ listed. MatchOption text ⊥ (IsTextOf arch found files listed))
+      → listed_for u step ≡ listed → MatchOption listed (text ≡ None) (λ listed. MatchOption text ⊥ (IsTextOf arch index_texts files listed))
   text_for place step None None there is unpacks = refl
   text_for place step (Some text) None there is unpacks =
       let of = belongs_there place text is in
@@ -62,9 +62,9 @@ module _ (arch : List ℕ) (found : ℕ → List ℕ → Found) (files : List (L
       let same : of.1.step ≡ step = cc (of.1.there) in
       let again : listed_for u step ≡ Some of.0 = subst (λ (s : Step). listed_for u s ≡ Some of.0) same of.1.unpacks in
       let one : of.0 ≡ listed = cc in
-      subst (λ (l : IndexPackage). IsTextOf arch found files l text) one of.2
+      subst (λ (l : IndexPackage). IsTextOf arch index_texts files l text) one of.2
 
   -- each text is what is recorded with the step in its place
-  pub all_texts : length places ≡ length steps → AreTexts arch found files u steps places
-  all_texts same = zip_by_place (IsTextFor arch found files u) steps places same
+  pub all_texts : length places ≡ length steps → AreTexts arch index_texts files u steps places
+  all_texts same = zip_by_place (IsTextFor arch index_texts files u) steps places same
       (λ place step text there is. text_for place step text (listed_for u step) there is refl)

@@ -9,14 +9,14 @@ use Rattle.stanza.specs.declared.form.Form.TheVariants.{Plain}
 use Rattle.stanza.specs.Reading.{Reading, to_read}
 use Rattle.stanza.specs.Stanza.{StanzaText}
 use Rattle.stanza.specs.Streamed.{read_within}
-use Rattle.stanza.specs.declared.error.ReadError.{ReadError}
-use Rattle.stanza.specs.declared.error.ReadError.TheVariants as read
+use Rattle.stanza.specs.declared.error.ReaderError.{ReaderError}
+use Rattle.stanza.specs.declared.error.ReaderError.TheVariants as read
 use Rattle.unpack_texts.specs.declared.error.FetchError.{FetchError}
 use Rattle.unpack_texts.specs.declared.error.FetchError.TheVariants as error
 
 -- what is read of a text: its stanzas, and a refusal behind them
 abbrev pub Items : Type 0
-Items = List (Result StanzaText ReadError)
+Items = List (Result StanzaText ReaderError)
 
 -- what is read of the text of an index
 abbrev pub items_in : List ℕ → Items
@@ -56,7 +56,7 @@ abbrev pub IsChanged : List ℕ → Items → List IndexPackage → Type 0
 IsChanged arch items wanted = Any (IsGone arch items) wanted
 
 -- why nothing was fetched of a text that wasn't read
-abbrev pub fetch_error_of : ReadError → FetchError
+abbrev pub fetch_error_of : ReaderError → FetchError
 fetch_error_of (read.Refused fault) = error.Changed
 fetch_error_of read.TooLarge = error.Changed
 fetch_error_of read.Read = error.Read

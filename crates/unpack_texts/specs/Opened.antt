@@ -12,22 +12,22 @@ use Rattle.unpack_texts.specs.Texts.{IsStanzaRefusal, IsTextOf}
 use Rattle.unpack_texts.specs.Wanted.{WantedStanza}
 
 -- the text is found, and no text is fetched of it for one of the packages
-pub record HasChanged (arch : List ℕ) (found : Found) (wanted : List IndexPackage) : Type 0 where
+pub record HasChanged (arch : List ℕ) (text : Found) (wanted : List IndexPackage) : Type 0 where
   pub bytes : List ℕ
-  pub there : found ≡ Some bytes
+  pub there : text ≡ Some bytes
   pub changed : IsChanged arch (items_in bytes) wanted
 
 -- the index of this number, of which this is found, is refused so; or memory was wanting
 abbrev pub IsOpenedFault : List ℕ → ℕ → Found → List IndexPackage → Refusal → Type 0
-IsOpenedFault arch number found wanted refused = (refused ≡ out_of_memory)
-    ⊎ ((refused ≡ record { place = place.Index number; fault = fault.Read }) × (found ≡ None))
-    ⊎ ((refused ≡ record { place = place.Index number; fault = fault.Changed }) × HasChanged arch found wanted)
+IsOpenedFault arch number text wanted refused = (refused ≡ out_of_memory)
+    ⊎ ((refused ≡ record { place = place.Index number; fault = fault.Read }) × (text ≡ None))
+    ⊎ ((refused ≡ record { place = place.Index number; fault = fault.Changed }) × HasChanged arch text wanted)
 
 -- one of these stanzas is refused so, or memory was wanting
 abbrev pub IsGroupRefusal : List ℕ → (ℕ → List ℕ → Found) → List (List ℕ) → List WantedStanza → Refusal → Type 0
-IsGroupRefusal arch found files wanted refused =
-    (refused ≡ out_of_memory) ⊎ Any (λ one. IsStanzaRefusal arch found files one.listed refused) wanted
+IsGroupRefusal arch index_texts files wanted refused =
+    (refused ≡ out_of_memory) ⊎ Any (λ one. IsStanzaRefusal arch index_texts files one.listed refused) wanted
 
 -- the text is that of the wanted stanza
 abbrev pub Belongs : List ℕ → (ℕ → List ℕ → Found) → List (List ℕ) → WantedStanza → List ℕ → Type 0
-Belongs arch found files one text = IsTextOf arch found files one.listed text
+Belongs arch index_texts files one text = IsTextOf arch index_texts files one.listed text

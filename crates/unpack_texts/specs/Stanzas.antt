@@ -13,8 +13,8 @@ pub record PairStanza : Type 0 where
   pub bytes : Option (List ℕ)
 
 -- the stanzas of these pairs, of which none was fetched
-abbrev pub unfetched : List Pair → List PairStanza
-unfetched pairs = map (λ pair. record { listed = pair.listed; bytes = None }) pairs
+abbrev pub pair_stanzas : List Pair → List PairStanza
+pair_stanzas pairs = map (λ pair. record { listed = pair.listed; bytes = None }) pairs
 
 -- the bytes of the stanza of the pair of this number, if they were fetched
 abbrev pub numbered_bytes : ℕ → List PairStanza → Option (List ℕ)

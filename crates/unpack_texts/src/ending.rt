@@ -1,6 +1,6 @@
 //! Texts that end with a newline.
 ghost use Rattle.std.specs.Prelude.{◌≡◌, IfOk, map};
-ghost use Rattle.unpack_texts.specs.Texts.{ended};
+ghost use Rattle.unpack_texts.specs.Texts.{with_newline};
 
 use std::alloc::{AllocError, Global};
 
@@ -8,8 +8,8 @@ use std::alloc::{AllocError, Global};
 const NEWLINE: u8 = b'\n';
 
 // The text with a newline at its end: one that is missing is added. Memory alone can fail.
-fn ended(text: Vec<u8>) -> Result<Vec<u8>, AllocError>
-    ensures { IfOk result (λ whole. whole.items ≡ ended text.items) }
+fn with_newline(text: Vec<u8>) -> Result<Vec<u8>, AllocError>
+    ensures { IfOk result (λ whole. whole.items ≡ with_newline text.items) }
 {
     let mut whole = text;
     if !whole.as_slice().ends_with(&[NEWLINE]) {
@@ -20,11 +20,13 @@ fn ended(text: Vec<u8>) -> Result<Vec<u8>, AllocError>
 
 /// The texts, each with a newline at its end. Memory alone can fail.
 pub(crate) fn all_ended(alloc: Global, texts: Vec<Vec<u8>>) -> Result<Vec<Vec<u8>>, AllocError>
-    ensures { IfOk result (λ whole. map (λ text. text.items) whole.items ≡ map (λ text. ended text.items) texts.items) }
+    ensures { IfOk result
+        (λ whole. map (λ text. text.items) whole.items
+        ≡ map (λ text. with_newline text.items) texts.items) }
 {
     let mut all = Vec::new(alloc);
     for text in texts {
-        all.push(ended(text)?)?;
+        all.push(with_newline(text)?)?;
     }
     Ok(all)
 }

@@ -3,7 +3,7 @@ ghost use Rattle.std.specs.Prelude.{◌≡◌};
 ghost use Rattle.unpack_texts.specs.Fetched.{fetch_error_of};
 ghost use Rattle.unpack_texts.specs.declared.error.FetchError.TheVariants as error;
 
-use stanza::ReadError;
+use stanza::ReaderError;
 use std::alloc::{AllocError, AllocFailed};
 use thiserror::Error;
 
@@ -21,14 +21,14 @@ pub enum FetchError {
     OutOfMemory,
 }
 
-impl From<ReadError> for FetchError {
+impl From<ReaderError> for FetchError {
     ghost from_gives = { λ read e. e ≡ fetch_error_of read };
 
-    fn from(read: ReadError) -> FetchError {
+    fn from(read: ReaderError) -> FetchError {
         match read {
-            ReadError::Refused(_) | ReadError::TooLarge => FetchError::Changed,
-            ReadError::Read => FetchError::Read,
-            ReadError::OutOfMemory => FetchError::OutOfMemory,
+            ReaderError::Refused(_) | ReaderError::TooLarge => FetchError::Changed,
+            ReaderError::Read => FetchError::Read,
+            ReaderError::OutOfMemory => FetchError::OutOfMemory,
         }
     }
 }

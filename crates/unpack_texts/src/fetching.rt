@@ -19,7 +19,8 @@ fn is_same_package(
     wanted: &IndexEntry<'_>,
 ) -> Result<bool, AllocError>
     ensures { IfOk result (λ same. IsTrue same
-        ↔ ((indexed.now.listed.pkg ≡ wanted.now.pkg) × (indexed.now.listed.is_essential ≡ wanted.now.is_essential))) }
+        ↔ ((indexed.now.listed.pkg ≡ wanted.now.pkg)
+        × (indexed.now.listed.is_essential ≡ wanted.now.is_essential))) }
 {
     let pkg = indexed.pkg(alloc)?;
     let at_first = wanted.pkg(alloc)?;
@@ -48,9 +49,11 @@ fn text_reached(
     arch: &[u8],
     wanted: &IndexEntry<'_>,
 ) -> Result<Vec<u8>, FetchError>
-    ensures fetched { (items : Items) (left : List ℕ) → HasRead items wanted.now.place.stanza reader.now left
+    ensures fetched { (items : Items) (left : List ℕ)
+        → HasRead items wanted.now.place.stanza reader.now left
         → IfOk result (λ text. IsFetched arch.now items wanted.now text.items) }
-    ensures changed { (items : Items) (left : List ℕ) → HasRead items wanted.now.place.stanza reader.now left
+    ensures changed { (items : Items) (left : List ℕ)
+        → HasRead items wanted.now.place.stanza reader.now left
         → IfErr result (λ e. e ≡ error.Changed → IsGone arch.now items wanted.now) }
     ensures known { IfErr result (λ e. e ≢ error.Read) }
 {
@@ -69,7 +72,8 @@ fn text_reached(
 pub fn in_order<'w, 'a>(
     wanted: Vec<&'w IndexEntry<'a>>,
 ) -> Result<Vec<&'w IndexEntry<'a>>, AllocError>
-    ensures order { IfOk result (λ ordered. IsNonDecreasingBy (λ entry. entry.now.place.stanza) ordered.items) }
+    ensures order { IfOk result
+        (λ ordered. IsNonDecreasingBy (λ entry. entry.now.place.stanza) ordered.items) }
     ensures same { IfOk result (λ ordered. IsPermutation wanted.entry.items ordered.items) }
 {
     let mut ordered = wanted;
@@ -90,13 +94,17 @@ pub fn fetch<S: Source>(
     requires order { IsNonDecreasingBy (λ entry. entry.now.place.stanza) wanted.now }
     ensures each { IfOk result (λ texts. length texts.items ≡ length wanted.now) }
     ensures fetched { (text : List ℕ) → S.left source.old ≡ Some text → IfOk result (λ texts.
-        AreFetched arch.now (items_in text) (map (λ entry. entry.now) wanted.now) (map (λ text. text.items) texts.items)) }
+        AreFetched arch.now (items_in text) (map (λ entry. entry.now) wanted.now)
+        (map (λ text. text.items) texts.items)) }
     ensures changed { (text : List ℕ) → S.left source.old ≡ Some text → IfErr result (λ e.
-        e ≡ error.Changed → IsChanged arch.now (items_in text) (map (λ entry. entry.now) wanted.now)) }
-    ensures known { (text : List ℕ) → S.left source.old ≡ Some text → IfErr result (λ e. e ≢ error.Read) }
+        e ≡ error.Changed
+        → IsChanged arch.now (items_in text) (map (λ entry. entry.now) wanted.now)) }
+    ensures known { (text : List ℕ) → S.left source.old ≡ Some text
+        → IfErr result (λ e. e ≢ error.Read) }
     ensures sure { S.is_sure source.old ≡ true → IfErr result (λ e. e ≢ error.Read) }
     ensures count { OnOk result (S.faults source.new ≡ S.faults source.old) }
-    ensures failed { IfErr result (λ e. e ≡ error.Read → S.faults source.new ≡ min (S.faults source.old + 1) (2 ^ 64 - 1)) }
+    ensures failed { IfErr result
+        (λ e. e ≡ error.Read → S.faults source.new ≡ min (S.faults source.old + 1) (2 ^ 64 - 1)) }
 {
     let mut texts = Vec::new(alloc);
     let mut reader = Reader::new(alloc, TEXT_BYTES)?;

@@ -29,7 +29,8 @@ pub(crate) fn fill(
 )
     requires count { length fetched.items ≡ length group.now }
     requires within { AreWithin (length texts.old.items) group.now }
-    ensures { texts.new.items ≡ filled texts.old.items group.now (map (λ text. text.items) fetched.items) }
+    ensures { texts.new.items
+        ≡ filled texts.old.items group.now (map (λ text. text.items) fetched.items) }
 {
     let mut at = 0;
     for text in fetched {

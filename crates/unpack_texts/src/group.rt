@@ -34,7 +34,8 @@ pub(crate) fn by_stanza<'p, 'a>(
     alloc: Global,
     group: &[Wanted<'p, 'a>],
 ) -> Result<Vec<Wanted<'p, 'a>>, AllocError>
-    ensures order { IfOk result (λ ordered. IsNonDecreasingBy (λ one. one.listed.place.stanza) ordered.items) }
+    ensures order { IfOk result
+        (λ ordered. IsNonDecreasingBy (λ one. one.listed.place.stanza) ordered.items) }
     ensures same { IfOk result (λ ordered. IsPermutation group.now ordered.items) }
 {
     let mut ordered = Vec::new(alloc);
@@ -50,7 +51,8 @@ pub(crate) fn entries_of<'p, 'a>(
     alloc: Global,
     group: &[Wanted<'p, 'a>],
 ) -> Result<Vec<&'p IndexEntry<'a>>, AllocError>
-    ensures { IfOk result (λ entries. map (λ entry. entry.now) entries.items ≡ map (λ one. one.listed) group.now) }
+    ensures { IfOk result
+        (λ entries. map (λ entry. entry.now) entries.items ≡ map (λ one. one.listed) group.now) }
 {
     let mut entries = Vec::new(alloc);
     for one in group {

@@ -26,11 +26,13 @@ pub(crate) fn fetch_from<S: Shelf>(
 ) -> Result<Vec<Vec<u8>>, Refusal>
     requires { IsNonDecreasingBy (λ entry. entry.now.place.stanza) wanted.now }
     ensures each { IfOk result (λ texts. length texts.items ≡ length wanted.now) }
-    ensures fetched { (at : Shelved) → S.found shelf.old ≡ Some at → IfOk result (λ texts.
+    ensures fetched { (at : Shelved) → S.known_texts shelf.old ≡ Some at → IfOk result (λ texts.
         (bytes : List ℕ) × (at.index number file.now ≡ Some bytes)
-        × AllZip (IsEnded arch.now (items_in bytes)) (map (λ entry. entry.now) wanted.now) (map (λ text. text.items) texts.items)) }
-    ensures refused { (at : Shelved) → S.found shelf.old ≡ Some at → IfErr result (λ refused.
-        IsOpenedFault arch.now number (at.index number file.now) (map (λ entry. entry.now) wanted.now) refused) }
+        × AllZip (IsEnded arch.now (items_in bytes)) (map (λ entry. entry.now) wanted.now)
+        (map (λ text. text.items) texts.items)) }
+    ensures refused { (at : Shelved) → S.known_texts shelf.old ≡ Some at → IfErr result (λ refused.
+        IsOpenedFault arch.now number (at.index number file.now)
+        (map (λ entry. entry.now) wanted.now) refused) }
     ensures read { IsReadBy S.Shelf shelf.old result shelf.new }
 {
     let mut text = open_index(alloc, shelf, number, file)?;

@@ -26,7 +26,7 @@ impl<'p, 'a> Model for PairStanza<'p, 'a> {
 
 impl<'p, 'a> PairStanza<'p, 'a> {
     /// The stanza of a pair, which wasn't fetched.
-    pub(crate) fn unfetched(listed: Option<&'p IndexEntry<'a>>) -> PairStanza<'p, 'a>
+    pub(crate) fn without_bytes(listed: Option<&'p IndexEntry<'a>>) -> PairStanza<'p, 'a>
         ensures { result ≡ record { listed = option_copied listed.entry; bytes = None } }
     {
         PairStanza {

@@ -36,7 +36,7 @@ impl RawStanza {
 }
 
 // The bytes of the text, if there is one.
-fn lent(text: &Option<RawStanza>) -> Option<&[u8]>
+fn bytes_of(text: &Option<RawStanza>) -> Option<&[u8]>
     ensures { option_copied result ≡ text.now }
 {
     match text {
@@ -54,7 +54,7 @@ pub fn lend_texts<'t>(
 {
     let mut all = Vec::new(alloc);
     for text in texts {
-        all.push(lent(text))?;
+        all.push(bytes_of(text))?;
     }
     Ok(all)
 }

@@ -21,7 +21,9 @@ fn same_restriction(
     restriction: Option<(Op, &Version<'_>)>,
     other: Option<(Op, &Version<'_>)>,
 ) -> bool
-    ensures { IsTrue result ↔ (option_map restriction_by_ref restriction.entry ≡ option_map restriction_by_ref other.entry) }
+    ensures { IsTrue result
+        ↔ (option_map restriction_by_ref restriction.entry
+        ≡ option_map restriction_by_ref other.entry) }
 {
     match (restriction, other) {
         (None, None) => true,

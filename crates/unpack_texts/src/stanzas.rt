@@ -3,7 +3,7 @@ ghost use Rattle.std.specs.Prelude.{◌≡◌, ◌≢◌, ◌<◌, ◌+◌, ◌-
 ghost use Rattle.std.specs.List.{All, list_all};
 ghost use Rattle.std.specs.Option.{option_copied};
 ghost use Rattle.unpack_texts.specs.Fetched.{items_in};
-ghost use Rattle.unpack_texts.specs.Stanzas.{AreAfter, AreAfterSome, HasGone, filled, is_there, numbered_bytes, unfetched};
+ghost use Rattle.unpack_texts.specs.Stanzas.{AreAfter, AreAfterSome, HasGone, filled, is_there, numbered_bytes, pair_stanzas};
 ghost use Rattle.unpack_texts.specs.declared.error.FetchError.TheVariants as error;
 
 use crate::error::FetchError;
@@ -32,15 +32,15 @@ impl<'p, 'a> Model for FetchedStanzas<'p, 'a> {
 }
 
 // The stanzas of these pairs, of which none was fetched.
-fn unfetched<'p, 'a>(
+fn pair_stanzas<'p, 'a>(
     alloc: Global,
     pairs: &[Pair<'p, 'a>],
 ) -> Result<Vec<PairStanza<'p, 'a>>, AllocError>
-    ensures { IfOk result (λ stanzas. stanzas.items ≡ unfetched pairs.now) }
+    ensures { IfOk result (λ stanzas. stanzas.items ≡ pair_stanzas pairs.now) }
 {
     let mut stanzas = Vec::new(alloc);
     for pair in pairs {
-        stanzas.push(PairStanza::unfetched(pair.listed()))?;
+        stanzas.push(PairStanza::without_bytes(pair.index_entry()))?;
     }
     Ok(stanzas)
 }
@@ -53,7 +53,8 @@ fn fill<'p, 'a>(
 )
     requires count { length texts.items ≡ length wanted.now }
     requires within { All (λ one. one.place < length stanzas.old.items) wanted.now }
-    ensures { stanzas.new.items ≡ filled stanzas.old.items wanted.now (map (λ text. text.items) texts.items) }
+    ensures { stanzas.new.items
+        ≡ filled stanzas.old.items wanted.now (map (λ text. text.items) texts.items) }
 {
     let mut at = 0;
     for text in texts {
@@ -68,9 +69,9 @@ impl<'p, 'a> FetchedStanzas<'p, 'a> {
         alloc: Global,
         universe: &Universe<'p, 'a>,
     ) -> Result<FetchedStanzas<'p, 'a>, AllocError>
-        ensures { IfOk result (λ stanzas. stanzas ≡ unfetched universe.now.pairs) }
+        ensures { IfOk result (λ stanzas. stanzas ≡ pair_stanzas universe.now.pairs) }
     {
-        let stanzas = unfetched(alloc, universe.pairs())?;
+        let stanzas = pair_stanzas(alloc, universe.pairs())?;
         Ok(FetchedStanzas { stanzas })
     }
 
@@ -90,10 +91,13 @@ impl<'p, 'a> FetchedStanzas<'p, 'a> {
         ensures unchanged { IfErr result (λ _. self.new ≡ self.old) }
         ensures changed { (text : List ℕ) → S.left source.old ≡ Some text → IfErr result (λ e.
             e ≡ error.Changed → HasGone arch.now (items_in text) number self.old) }
-        ensures known { (text : List ℕ) → S.left source.old ≡ Some text → IfErr result (λ e. e ≢ error.Read) }
+        ensures known { (text : List ℕ) → S.left source.old ≡ Some text
+            → IfErr result (λ e. e ≢ error.Read) }
         ensures sure { S.is_sure source.old ≡ true → IfErr result (λ e. e ≢ error.Read) }
         ensures count { OnOk result (S.faults source.new ≡ S.faults source.old) }
-        ensures failed { IfErr result (λ e. e ≡ error.Read → S.faults source.new ≡ min (S.faults source.old + 1) (2 ^ 64 - 1)) }
+        ensures failed { IfErr result
+            (λ e. e ≡ error.Read → S.faults source.new
+            ≡ min (S.faults source.old + 1) (2 ^ 64 - 1)) }
     {
         let wanted = by_stanza(wanted_of(alloc, self.stanzas.as_slice(), number)?)?;
         let entries = entries_of(alloc, wanted.as_slice())?;

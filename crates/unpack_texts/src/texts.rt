@@ -41,9 +41,10 @@ fn fetch_group<S: Shelf>(
     requires of_index { AreOfIndex number group.now }
     requires within { AreWithin (length texts.old.items) group.now }
     ensures size { length texts.new.items ≡ length texts.old.items }
-    ensures filled { (at : Shelved) → S.found shelf.old ≡ Some at → OnOk result (IsFilled
-        (Belongs arch.now at.index (map (λ file. file.now) files.now)) group.now texts.old.items texts.new.items) }
-    ensures refused { (at : Shelved) → S.found shelf.old ≡ Some at → IfErr result (λ refused.
+    ensures filled { (at : Shelved) → S.known_texts shelf.old ≡ Some at → OnOk result (IsFilled
+        (Belongs arch.now at.index
+        (map (λ file. file.now) files.now)) group.now texts.old.items texts.new.items) }
+    ensures refused { (at : Shelved) → S.known_texts shelf.old ≡ Some at → IfErr result (λ refused.
         IsGroupRefusal arch.now at.index (map (λ file. file.now) files.now) group.now refused) }
     ensures read { IsReadBy S.Shelf shelf.old result shelf.new }
 {
@@ -68,9 +69,10 @@ fn fetch_all<S: Shelf>(
 ) -> Result<(), Refusal>
     requires within { AreWithin (length texts.old.items) wanted.now }
     ensures size { length texts.new.items ≡ length texts.old.items }
-    ensures filled { (at : Shelved) → S.found shelf.old ≡ Some at → OnOk result (IsFilled
-        (Belongs arch.now at.index (map (λ file. file.now) files.now)) wanted.now texts.old.items texts.new.items) }
-    ensures refused { (at : Shelved) → S.found shelf.old ≡ Some at → IfErr result (λ refused.
+    ensures filled { (at : Shelved) → S.known_texts shelf.old ≡ Some at → OnOk result (IsFilled
+        (Belongs arch.now at.index
+        (map (λ file. file.now) files.now)) wanted.now texts.old.items texts.new.items) }
+    ensures refused { (at : Shelved) → S.known_texts shelf.old ≡ Some at → IfErr result (λ refused.
         IsGroupRefusal arch.now at.index (map (λ file. file.now) files.now) wanted.now refused) }
     ensures read { IsReadBy S.Shelf shelf.old result shelf.new }
 {
@@ -99,10 +101,12 @@ pub fn fetch_texts<S: Shelf>(
     universe: &Universe<'_, '_>,
     steps: &[Step],
 ) -> Result<Vec<Option<RawStanza>>, Refusal>
-    ensures texts { (at : Shelved) → S.found shelf.old ≡ Some at → IfOk result (λ texts.
-        AreTexts arch.now at.index (map (λ file. file.now) files.now) universe.now steps.now texts.items) }
-    ensures refused { (at : Shelved) → S.found shelf.old ≡ Some at → IfErr result (λ refused.
-        IsTextsRefusal arch.now at.index (map (λ file. file.now) files.now) universe.now steps.now refused) }
+    ensures texts { (at : Shelved) → S.known_texts shelf.old ≡ Some at → IfOk result (λ texts.
+        AreTexts arch.now at.index
+        (map (λ file. file.now) files.now) universe.now steps.now texts.items) }
+    ensures refused { (at : Shelved) → S.known_texts shelf.old ≡ Some at → IfErr result (λ refused.
+        IsTextsRefusal arch.now at.index
+        (map (λ file. file.now) files.now) universe.now steps.now refused) }
     ensures count { IfOk result (λ texts. length texts.items ≡ length steps.now) }
     ensures read { IsReadBy S.Shelf shelf.old result shelf.new }
 {

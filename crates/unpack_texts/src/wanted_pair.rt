@@ -75,7 +75,8 @@ pub(crate) fn wanted_of<'p, 'a>(
 pub(crate) fn by_stanza<'p, 'a>(
     wanted: Vec<WantedPair<'p, 'a>>,
 ) -> Result<Vec<WantedPair<'p, 'a>>, AllocError>
-    ensures order { IfOk result (λ ordered. IsNonDecreasingBy (λ one. one.listed.place.stanza) ordered.items) }
+    ensures order { IfOk result
+        (λ ordered. IsNonDecreasingBy (λ one. one.listed.place.stanza) ordered.items) }
     ensures same { IfOk result (λ ordered. IsPermutation wanted.entry.items ordered.items) }
 {
     let mut ordered = wanted;
@@ -88,7 +89,8 @@ pub(crate) fn entries_of<'p, 'a>(
     alloc: Global,
     wanted: &[WantedPair<'p, 'a>],
 ) -> Result<Vec<&'p IndexEntry<'a>>, AllocError>
-    ensures { IfOk result (λ entries. map (λ entry. entry.now) entries.items ≡ map (λ one. one.listed) wanted.now) }
+    ensures { IfOk result
+        (λ entries. map (λ entry. entry.now) entries.items ≡ map (λ one. one.listed) wanted.now) }
 {
     let mut entries = Vec::new(alloc);
     for one in wanted {

@@ -9,15 +9,15 @@ use Rattle.rules.specs.Package.{Atom, BreaksOther, ConflictsWith, Pkg}
 use Rattle.rules.specs.Remove.{IsMetWithout, IsNeededByNone, IsNotNeeded, NeedsNot}
 use Rattle.rules.specs.Unpack.{BreaksNone, HasNoConflict, IsCompatible}
 use Rattle.witness.specs.Needed.{AreMet, IsMemberWhole, IsSupplied, ManagesWithoutAll}
-use Rattle.witness.specs.Witness.{BreaksMember, IsBroken, IsInTheWay, IsMemberBroken, ManagesWithout}
-use Rattle.witness.specs.declared.witness.Field.{Field}
-use Rattle.witness.specs.declared.witness.Field.TheVariants as field
-use Rattle.witness.specs.declared.witness.Way.TheVariants as way
+use Rattle.witness.specs.Witness.{BreaksMember, IsBroken, IsConflicting, IsMemberBroken, ManagesWithout}
+use Rattle.witness.specs.declared.witness.ClauseField.{ClauseField}
+use Rattle.witness.specs.declared.witness.ClauseField.TheVariants as field
+use Rattle.witness.specs.declared.witness.Direction.TheVariants as direction
 
 -- nothing is in the way where nothing is either way
-pub no_conflict : (db : List Record) (pkg : Pkg) → All (λ other. ¬ IsInTheWay way.Own pkg other) db
-    → All (λ other. ¬ IsInTheWay way.Other pkg other) db → HasNoConflict db pkg
-unfolding HasNoConflict IsCompatible IsInTheWay
+pub no_conflict : (db : List Record) (pkg : Pkg) → All (λ other. ¬ IsConflicting direction.Own pkg other) db
+    → All (λ other. ¬ IsConflicting direction.Other pkg other) db → HasNoConflict db pkg
+unfolding HasNoConflict IsCompatible IsConflicting
 no_conflict db pkg own others = All-intro (λ (other : Record). other.name ≢ pkg.name → IsPresent other
     → (¬ ConflictsWith pkg (pkg_of other)) × (¬ ConflictsWith (pkg_of other) pkg)) db (λ other there apart is. (
       λ conflicts. All-contains (λ (o : Record). ¬ ((o.name ≢ pkg.name) × IsPresent o × ConflictsWith pkg (pkg_of o))) db other own there
@@ -48,13 +48,13 @@ not_needed db name all = All-intro (λ (removed : Record). removed.name ≡ name
     (λ same. apart (same ∙ sym named)) is)))
 
 -- what holds where something is found and where nothing is, and what follows from each
-pub match_weaker : {X : Type 0} (found : Option X) (A C : Type 0) (B D : X → Type 0) → (A → C) → ((x : X) → B x → D x)
-    → MatchOption found A B → MatchOption found C D
+pub match_weaker : {X : Type 0} (maybe : Option X) (A C : Type 0) (B D : X → Type 0) → (A → C) → ((x : X) → B x → D x)
+    → MatchOption maybe A B → MatchOption maybe C D
 match_weaker None A C B D none some holds = none holds
 match_weaker (Some x) A C B D none some holds = some x holds
 
 -- the members have the clauses of the field met where each record has, if it is a member
-pub all_met : (field : Field) (db : List Record) (names : List (List ℕ)) → All (IsSupplied db names field) db → AreMet field db names
+pub all_met : (field : ClauseField) (db : List Record) (names : List (List ℕ)) → All (IsSupplied db names field) db → AreMet field db names
 unfolding IsSupplied ArePreDependsInstalled AreDependsInstalled
 all_met field.PreDepends db names all = all
 all_met field.Depends db names all = all

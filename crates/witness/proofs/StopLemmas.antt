@@ -68,7 +68,7 @@ stop_runs u start steps number failed stop = (
 -- the first rule that isn't kept isn't kept
 unkept_fails : (IsKept : Rule → Type 0) (rules : List Rule) (unkept : Rule) → IsFirstUnkept IsKept rules unkept → ¬ IsKept unkept
 unkept_fails IsKept [] unkept none = absurd none
-unkept_fails IsKept (first ∷ rest) unkept found = elim found [
+unkept_fails IsKept (first ∷ rest) unkept is_first = elim is_first [
   | inl here ↦ λ kept. here.1 (subst IsKept here.0 kept)
   | inr later ↦ unkept_fails IsKept rest unkept later.1
 ]
@@ -88,14 +88,14 @@ fails_here u start db steps number failed d stop run =
 
 -- what is found of the step
 abbrev pub IsFoundOf : Option IndexPackage → List Record → Step → Rule → Option Witness → Type 0
-IsFoundOf listed db step failed found = MatchOption found
+IsFoundOf listed db step failed witness = MatchOption witness
     ((u : Universe) → listed ≡ listed_for u step → has_witness step failed ≡ true → Asks u db step failed)
     (IsWitness listed db step failed)
 
 -- a rule that isn't kept and has witnesses has one that is found
-shown_by : (u : Universe) (listed : Option IndexPackage) (db : List Record) (step : Step) (failed : Rule) (found : Option Witness)
-    → listed ≡ listed_for u step → ¬ Asks u db step failed → IsFoundOf listed db step failed found
-    → MatchOption found (has_witness step failed ≡ false) (IsWitness (listed_for u step) db step failed)
+shown_by : (u : Universe) (listed : Option IndexPackage) (db : List Record) (step : Step) (failed : Rule) (witness : Option Witness)
+    → listed ≡ listed_for u step → ¬ Asks u db step failed → IsFoundOf listed db step failed witness
+    → MatchOption witness (has_witness step failed ≡ false) (IsWitness (listed_for u step) db step failed)
 shown_by u listed db step failed None same fails kept = by (has_witness step failed) refl
   where
     by : (b : Bool) → has_witness step failed ≡ b → has_witness step failed ≡ false
@@ -106,10 +106,10 @@ shown_by u listed db step failed (Some witness) same fails shown =
 
 -- it is the witness of the stop
 pub found_at : (u : Universe) (start db : List Record) (steps : List Step) (number : ℕ) (failed : Rule) (d : Step)
-    (listed : Option IndexPackage) (found : Option Witness) → StopsAt u start steps number failed
+    (listed : Option IndexPackage) (witness : Option Witness) → StopsAt u start steps number failed
     → Run u start (take (number - 1) steps) db → listed ≡ listed_for u (get_or steps (number - 1) d)
-    → IsFoundOf listed db (get_or steps (number - 1) d) failed found → IsFoundAt u start steps number failed found
-found_at u start db steps number failed d listed found stop run same shown =
+    → IsFoundOf listed db (get_or steps (number - 1) d) failed witness → IsFoundAt u start steps number failed witness
+found_at u start db steps number failed d listed witness stop run same shown =
     let within = stop_within u start steps number failed stop in record {
       before = take (number - 1) steps;
       step = get_or steps (number - 1) d;
@@ -119,24 +119,24 @@ found_at u start db steps number failed d listed found stop run same shown =
       number_is = let e = length-before steps (number - 1) within in
           let f = stop_counts u start steps number failed stop in omega arith;
       run = run;
-      shown = shown_by u listed db (get_or steps (number - 1) d) failed found same
+      shown = shown_by u listed db (get_or steps (number - 1) d) failed witness same
           (fails_here u start db steps number failed d stop run) shown;
     }
 
 -- what is found of an unpacking is found of the step
 pub unpack_shown : {E : Type 0} (listed : Option IndexPackage) (db : List Record) (taken : Step) (name version : List ℕ) (failed : Rule)
     (result : Result (Option Witness) E) → taken ≡ step.Unpack name version
-    → IfOk result (λ found. MatchOption found
+    → IfOk result (λ maybe_witness. MatchOption maybe_witness
     ((n v : List ℕ) → unpack_has_witness failed ≡ true → UnpackAsks listed db n v failed)
     (λ witness. MatchOption listed ⊥ (λ it. IsAgainstUnpack db it.pkg failed witness)))
     → IfOk result (IsFoundOf listed db taken failed)
 unpack_shown {E} listed db taken name version failed result is shown =
     subst (λ (step : Step). IfOk result (IsFoundOf listed db step failed)) (sym is) (by result shown)
   where
-    by : (result : Result (Option Witness) E) → IfOk result (λ found. MatchOption found
+    by : (result : Result (Option Witness) E) → IfOk result (λ maybe_witness. MatchOption maybe_witness
         ((n v : List ℕ) → unpack_has_witness failed ≡ true → UnpackAsks listed db n v failed)
         (λ witness. MatchOption listed ⊥ (λ it. IsAgainstUnpack db it.pkg failed witness)))
         → IfOk result (IsFoundOf listed db (step.Unpack name version) failed)
     by (Ok None) kept = λ u same has. subst (λ (it : Option IndexPackage). UnpackAsks it db name version failed) same (kept name version has)
-    by (Ok (Some witness)) found = found
+    by (Ok (Some witness)) holds = holds
     by (Err e) holds = holds

@@ -10,7 +10,7 @@ use Rattle.witness.specs.declared.witness.Witness.{Witness}
 
 -- the steps before the one of this number, counted from 1, are a run, and in the database that they leave the witness stands against it, by the rule; there is none only where the rule has none
 pub record IsFoundAt (u : Universe) (start : List Record) (steps : List Step) (number : ℕ) (failed : Rule)
-    (found : Option Witness) : Type 0 where
+    (witness : Option Witness) : Type 0 where
   pub before : List Step
   pub step : Step
   pub rest : List Step
@@ -18,4 +18,4 @@ pub record IsFoundAt (u : Universe) (start : List Record) (steps : List Step) (n
   pub place : steps ≡ before ++ step ∷ rest
   pub number_is : number ≡ length before + 1
   pub run : Run u start before reached
-  pub shown : MatchOption found (has_witness step failed ≡ false) (IsWitness (listed_for u step) reached step failed)
+  pub shown : MatchOption witness (has_witness step failed ≡ false) (IsWitness (listed_for u step) reached step failed)

@@ -36,42 +36,44 @@ pub fn first_unmet(db: &Records<'_, '_>, clauses: &[Clause<'_>]) -> Option<usize
 }
 
 // Whether the record is of one of the names, as a test.
-fn is_among(names: &[Name], found: &StateRecord<'_, '_>) -> bool
-    ensures { result ≡ is_among names.now found.now }
+fn is_among(names: &[Name], entry: &StateRecord<'_, '_>) -> bool
+    ensures { result ≡ is_among names.now entry.now }
 {
-    names.iter().any(|name| found.name() == name.as_bytes())
+    names.iter().any(|name| entry.name() == name.as_bytes())
 }
 
 /// Whether the record is of one of the names.
-pub(crate) fn is_member(names: &[Name], found: &StateRecord<'_, '_>) -> bool
-    ensures { IsTrue result ↔ Contains names.now found.now.name }
+pub(crate) fn is_member(names: &[Name], entry: &StateRecord<'_, '_>) -> bool
+    ensures { IsTrue result ↔ Contains names.now entry.now.name }
 {
-    is_among(names, found)
+    is_among(names, entry)
 }
 
 // Whether the record is present, of one of the names, and matches the clause.
-fn matches_among(names: &[Name], found: &StateRecord<'_, '_>, clause: &Clause<'_>) -> bool
+fn matches_among(names: &[Name], entry: &StateRecord<'_, '_>, clause: &Clause<'_>) -> bool
     ensures { IsTrue result
-        ↔ ((is_present_among names.now found.now ≡ true) × MatchesSome (pkg_of found.now) clause.now) }
+        ↔ ((is_present_among names.now entry.now ≡ true)
+        × MatchesSome (pkg_of entry.now) clause.now) }
 {
-    match found.present_pkg() {
-        Some(there) => matches_some(there, clause.as_slice()) && is_among(names, found),
+    match entry.present_pkg() {
+        Some(there) => matches_some(there, clause.as_slice()) && is_among(names, entry),
         None => false,
     }
 }
 
 fn some_matches_among(db: &Records<'_, '_>, names: &[Name], clause: &Clause<'_>) -> bool
-    ensures { IsTrue result ↔ Any (λ found. (is_present_among names.now found ≡ true)
-        × MatchesSome (pkg_of found) clause.now) db.now }
+    ensures { IsTrue result ↔ Any (λ entry. (is_present_among names.now entry ≡ true)
+        × MatchesSome (pkg_of entry) clause.now) db.now }
 {
     db.as_slice()
         .iter()
-        .any(|found| matches_among(names, found, clause))
+        .any(|entry| matches_among(names, entry, clause))
 }
 
 // Whether an installed package or a member meets the clause.
 fn is_met_with(db: &Records<'_, '_>, names: &[Name], clause: &Clause<'_>) -> bool
-    ensures { IsTrue result ↔ MeetsClause (installed_of db.now ++ members_of names.now db.now) clause.now }
+    ensures { IsTrue result
+        ↔ MeetsClause (installed_of db.now ++ members_of names.now db.now) clause.now }
 {
     is_met(db, clause) || some_matches_among(db, names, clause)
 }
@@ -83,8 +85,11 @@ pub(crate) fn first_unmet_with(
     names: &[Name],
     clauses: &[Clause<'_>],
 ) -> Option<usize>
-    ensures { MatchOption result (MeetsClauses (installed_of db.now ++ members_of names.now db.now) clauses.now)
-        (HasAt (λ clause. ¬ MeetsClause (installed_of db.now ++ members_of names.now db.now) clause) clauses.now) }
+    ensures { MatchOption result
+        (MeetsClauses (installed_of db.now ++ members_of names.now db.now) clauses.now)
+        (HasAt (λ clause.
+        ¬ MeetsClause
+        (installed_of db.now ++ members_of names.now db.now) clause) clauses.now) }
 {
     clauses
         .iter()

@@ -12,7 +12,7 @@ ghost use Rattle.witness.specs.Needed.{AreMet, IsMemberWhole, IsSupplied};
 ghost use Rattle.witness.specs.Witness.{BreaksMember, HasAt, IsAgainstConfigure, IsMemberBroken, LacksAt, clauses_in, configure_has_witness, counted_for, rule_for};
 
 use crate::clauses::{first_unmet, first_unmet_with, is_member};
-use crate::witness::{Field, Witness};
+use crate::witness::{ClauseField, Witness};
 use plancheck_state::{Records, StateRecord, breaks_other, is_same};
 use relation::Pkg;
 use rules::{Name, Rule, Text};
@@ -22,15 +22,17 @@ use std::alloc::{AllocError, Global};
 fn first_lacking(
     db: &Records<'_, '_>,
     names: &[Name],
-    field: Field,
+    field: ClauseField,
     member: &StateRecord<'_, '_>,
 ) -> Option<usize>
-    ensures { MatchOption result (MeetsClauses (counted_for field db.now names.now) (clauses_in field member.now))
-        (HasAt (λ clause. ¬ MeetsClause (counted_for field db.now names.now) clause) (clauses_in field member.now)) }
+    ensures { MatchOption result
+        (MeetsClauses (counted_for field db.now names.now) (clauses_in field member.now))
+        (HasAt (λ clause. ¬ MeetsClause (counted_for field db.now names.now) clause)
+        (clauses_in field member.now)) }
 {
     match field {
-        Field::PreDepends => first_unmet(db, member.pre_depends()),
-        Field::Depends => first_unmet_with(db, names, member.depends()),
+        ClauseField::PreDepends => first_unmet(db, member.pre_depends()),
+        ClauseField::Depends => first_unmet_with(db, names, member.depends()),
     }
 }
 
@@ -39,7 +41,7 @@ fn first_lacking(
 fn lacking_of(
     db: &Records<'_, '_>,
     names: &[Name],
-    field: Field,
+    field: ClauseField,
     member: &StateRecord<'_, '_>,
 ) -> Option<usize>
     ensures { MatchOption result (IsSupplied db.now names.now field member.now)
@@ -56,10 +58,11 @@ fn lacking_of(
 fn first_unsupplied<'a>(
     db: &Records<'_, 'a>,
     names: &[Name],
-    field: Field,
+    field: ClauseField,
 ) -> Option<(&'a [u8], usize)>
     ensures { MatchOption result (All (IsSupplied db.now names.now field) db.now)
-        (λ found. Any (λ member. (member.name ≡ found.0.now) × LacksAt db.now names.now field found.1 member) db.now) }
+        (λ lack. Any (λ member. (member.name ≡ lack.0.now)
+        × LacksAt db.now names.now field lack.1 member) db.now) }
 {
     for member in db.as_slice() {
         if let Some(place) = lacking_of(db, names, field, member) {
@@ -69,13 +72,13 @@ fn first_unsupplied<'a>(
     None
 }
 
-fn unmet(
+fn unmet_clause(
     alloc: Global,
     db: &Records<'_, '_>,
     names: &[Name],
-    field: Field,
+    field: ClauseField,
 ) -> Result<Option<Witness>, AllocError>
-    ensures { IfOk result (λ found. MatchOption found (AreMet field db.now names.now)
+    ensures { IfOk result (λ witness. MatchOption witness (AreMet field db.now names.now)
         (IsAgainstConfigure db.now names.now (rule_for field))) }
 {
     match first_unsupplied(db, names, field) {
@@ -115,7 +118,7 @@ fn first_breaker<'a>(
         .find(|other| breaks_member(member, here, other))
     {
         None => None,
-        Some(found) => Some(found.name()),
+        Some(entry) => Some(entry.name()),
     }
 }
 
@@ -140,7 +143,8 @@ fn breaker_of<'a>(
 // The first member that is broken, and what breaks it.
 fn first_broken<'a>(db: &Records<'_, 'a>, names: &[Name]) -> Option<(&'a [u8], &'a [u8])>
     ensures { MatchOption result (All (IsMemberWhole db.now names.now) db.now)
-        (λ found. Any (λ member. (member.name ≡ found.0.now) × IsMemberBroken db.now names.now found.1.now member) db.now) }
+        (λ both. Any (λ member. (member.name ≡ both.0.now)
+        × IsMemberBroken db.now names.now both.1.now member) db.now) }
 {
     for member in db.as_slice() {
         if let Some(breaker) = breaker_of(db, names, member) {
@@ -150,12 +154,12 @@ fn first_broken<'a>(db: &Records<'_, 'a>, names: &[Name]) -> Option<(&'a [u8], &
     None
 }
 
-fn broken(
+fn broken_package(
     alloc: Global,
     db: &Records<'_, '_>,
     names: &[Name],
 ) -> Result<Option<Witness>, AllocError>
-    ensures { IfOk result (λ found. MatchOption found (AreUnbroken db.now names.now)
+    ensures { IfOk result (λ witness. MatchOption witness (AreUnbroken db.now names.now)
         (IsAgainstConfigure db.now names.now rules.Breaks)) }
 {
     match first_broken(db, names) {
@@ -177,13 +181,15 @@ pub(crate) fn against_configure(
     names: &[Name],
     rule: Rule,
 ) -> Result<Option<Witness>, AllocError>
-    ensures { IfOk result (λ found. MatchOption found (configure_has_witness rule ≡ true → ConfigureAsks db.now names.now rule)
+    ensures { IfOk result
+        (λ witness. MatchOption witness
+        (configure_has_witness rule ≡ true → ConfigureAsks db.now names.now rule)
         (IsAgainstConfigure db.now names.now rule)) }
 {
     match rule {
-        Rule::PreDepends => unmet(alloc, db, names, Field::PreDepends),
-        Rule::Depends => unmet(alloc, db, names, Field::Depends),
-        Rule::Breaks => broken(alloc, db, names),
+        Rule::PreDepends => unmet_clause(alloc, db, names, ClauseField::PreDepends),
+        Rule::Depends => unmet_clause(alloc, db, names, ClauseField::Depends),
+        Rule::Breaks => broken_package(alloc, db, names),
         _ => Ok(None),
     }
 }

@@ -29,12 +29,13 @@ pub fn find_witness<'p, 'a>(
 ) -> Result<Option<Witness>, AllocError>
     requires built { IsBuiltOn start.now universe.now }
     requires verdict { IsVerdict universe.now start.now steps.now (verdicts.Step number rule) }
-    ensures { IfOk result (λ found. IsFoundAt universe.now start.now steps.now number rule found) }
+    ensures { IfOk result
+        (λ witness. IsFoundAt universe.now start.now steps.now number rule witness) }
 {
     let stanzas = stanzas_for(alloc, universe, steps)?;
     let before = number - 1;
     let db = turn(alloc, start, universe, steps, stanzas.as_slice(), before)?;
     let listed = stanza_at(stanzas.as_slice(), before);
-    let found = witness_of(alloc, &db, listed, &steps[before], rule)?;
-    Ok(found)
+    let witness = witness_of(alloc, &db, listed, &steps[before], rule)?;
+    Ok(witness)
 }

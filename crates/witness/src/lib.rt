@@ -17,4 +17,4 @@ pub use find::find_witness;
 pub use step::witness_of;
 pub use taken::turn;
 pub use unpack::{first_broken, own_conflict};
-pub use witness::{Field, Way, Witness};
+pub use witness::{ClauseField, Direction, Witness};

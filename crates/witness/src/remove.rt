@@ -10,7 +10,7 @@ ghost use Rattle.witness.specs.Needed.{ManagesWithoutAll};
 ghost use Rattle.witness.specs.Witness.{HasAt, IsAgainstRemove, ManagesWithout, NeedsAt, clauses_in, remove_has_witness};
 
 use crate::clauses::first_needing;
-use crate::witness::{Field, Witness};
+use crate::witness::{ClauseField, Witness};
 use plancheck_state::{Records, StateRecord, is_same};
 use rules::{Rule, Text};
 use std::alloc::{AllocError, Global};
@@ -20,24 +20,31 @@ fn needing_clause(
     db: &Records<'_, '_>,
     name: &[u8],
     other: &StateRecord<'_, '_>,
-) -> Option<(Field, usize)>
-    ensures { MatchOption result (All (ManagesWithout db.now name.now) (other.now.relations.pre_depends ++ other.now.relations.depends))
-        (λ found. HasAt (λ clause. ¬ ManagesWithout db.now name.now clause) (clauses_in found.0 other.now) found.1) }
+) -> Option<(ClauseField, usize)>
+    ensures { MatchOption result
+        (All (ManagesWithout db.now name.now)
+        (other.now.relations.pre_depends ++ other.now.relations.depends))
+        (λ need. HasAt (λ clause. ¬ ManagesWithout db.now name.now clause)
+        (clauses_in need.0 other.now) need.1) }
 {
     match first_needing(db, name, other.pre_depends()) {
-        Some(place) => Some((Field::PreDepends, place)),
+        Some(place) => Some((ClauseField::PreDepends, place)),
         None => match first_needing(db, name, other.depends()) {
             None => None,
-            Some(place) => Some((Field::Depends, place)),
+            Some(place) => Some((ClauseField::Depends, place)),
         },
     }
 }
 
 // The clause by which the record's package, if it is installed and of another name, needs the name.
 #[tactic(auto, unfolding(crate::specs::Witness::NeedsAt, crate::specs::Needed::ManagesWithoutAll))]
-fn need_of(db: &Records<'_, '_>, name: &[u8], other: &StateRecord<'_, '_>) -> Option<(Field, usize)>
+fn need_of(
+    db: &Records<'_, '_>,
+    name: &[u8],
+    other: &StateRecord<'_, '_>,
+) -> Option<(ClauseField, usize)>
     ensures { MatchOption result (ManagesWithoutAll db.now name.now other.now)
-        (λ found. NeedsAt db.now name.now found.0 found.1 other.now) }
+        (λ need. NeedsAt db.now name.now need.0 need.1 other.now) }
 {
     if !other.state().is_installed() || is_same(other.name(), name) {
         return None;
@@ -46,9 +53,10 @@ fn need_of(db: &Records<'_, '_>, name: &[u8], other: &StateRecord<'_, '_>) -> Op
 }
 
 // The first installed package of another name that needs the name, with its clause.
-fn first_in_need<'a>(db: &Records<'_, 'a>, name: &[u8]) -> Option<(&'a [u8], Field, usize)>
+fn first_in_need<'a>(db: &Records<'_, 'a>, name: &[u8]) -> Option<(&'a [u8], ClauseField, usize)>
     ensures { MatchOption result (All (ManagesWithoutAll db.now name.now) db.now)
-        (λ found. Any (λ other. (other.name ≡ found.0.now) × NeedsAt db.now name.now found.1 found.2 other) db.now) }
+        (λ need. Any (λ other. (other.name ≡ need.0.now)
+        × NeedsAt db.now name.now need.1 need.2 other) db.now) }
 {
     for other in db.as_slice() {
         if let Some((field, place)) = need_of(db, name, other) {
@@ -59,7 +67,7 @@ fn first_in_need<'a>(db: &Records<'_, 'a>, name: &[u8]) -> Option<(&'a [u8], Fie
 }
 
 fn need(alloc: Global, db: &Records<'_, '_>, name: &[u8]) -> Result<Option<Witness>, AllocError>
-    ensures { IfOk result (λ found. MatchOption found (IsNotNeeded db.now name.now)
+    ensures { IfOk result (λ witness. MatchOption witness (IsNotNeeded db.now name.now)
         (IsAgainstRemove db.now name.now rules.NeededBy)) }
 {
     match first_in_need(db, name) {
@@ -79,7 +87,9 @@ pub(crate) fn against_remove(
     name: &[u8],
     rule: Rule,
 ) -> Result<Option<Witness>, AllocError>
-    ensures { IfOk result (λ found. MatchOption found (remove_has_witness rule ≡ true → RemoveAsks db.now name.now rule)
+    ensures { IfOk result
+        (λ witness. MatchOption witness
+        (remove_has_witness rule ≡ true → RemoveAsks db.now name.now rule)
         (IsAgainstRemove db.now name.now rule)) }
 {
     match rule {

@@ -25,8 +25,9 @@ pub fn witness_of(
     step: &Step,
     rule: Rule,
 ) -> Result<Option<Witness>, AllocError>
-    ensures { IfOk result (λ found. MatchOption found
-        ((u : Universe) → option_copied listed.entry ≡ listed_for u step.now → has_witness step.now rule ≡ true
+    ensures { IfOk result (λ witness. MatchOption witness
+        ((u : Universe) → option_copied listed.entry ≡ listed_for u step.now
+        → has_witness step.now rule ≡ true
         → Asks u db.now step.now rule)
         (IsWitness (option_copied listed.entry) db.now step.now rule)) }
 {

@@ -8,11 +8,11 @@ ghost use Rattle.rules.specs.Legal.{UnpackAsks};
 ghost use Rattle.rules.specs.Package.{ConflictsWith};
 ghost use Rattle.rules.specs.Unpack.{BreaksNone, HasNoConflict, HasPreDepends};
 ghost use Rattle.rules.specs.declared.step.Rule.TheVariants as rules;
-ghost use Rattle.witness.specs.Witness.{IsAgainstUnpack, IsBroken, IsInTheWay, unpack_has_witness};
-ghost use Rattle.witness.specs.declared.witness.Way.TheVariants as ways;
+ghost use Rattle.witness.specs.Witness.{IsAgainstUnpack, IsBroken, IsConflicting, unpack_has_witness};
+ghost use Rattle.witness.specs.declared.witness.Direction.TheVariants as directions;
 
 use crate::clauses::first_unsatisfied;
-use crate::witness::{Way, Witness};
+use crate::witness::{Direction, Witness};
 use index::IndexPackage;
 use plancheck_state::{Records, StateRecord, breaks_other, conflicts_with, is_same};
 use relation::Pkg;
@@ -20,8 +20,9 @@ use rules::{Rule, Text};
 use std::alloc::{AllocError, Global};
 
 // What of the package's Pre-Depends isn't satisfied.
-fn unsatisfied(db: &Records<'_, '_>, pkg: &Pkg<'_>) -> Option<Witness>
-    ensures { MatchOption result (HasPreDepends db.now pkg.now) (IsAgainstUnpack db.now pkg.now rules.PreDepends) }
+fn unsatisfied_clause(db: &Records<'_, '_>, pkg: &Pkg<'_>) -> Option<Witness>
+    ensures { MatchOption result (HasPreDepends db.now pkg.now)
+        (IsAgainstUnpack db.now pkg.now rules.PreDepends) }
 {
     match first_unsatisfied(db, pkg) {
         None => None,
@@ -30,9 +31,9 @@ fn unsatisfied(db: &Records<'_, '_>, pkg: &Pkg<'_>) -> Option<Witness>
 }
 
 // Whether the record is of a present package of another name with which the package conflicts.
-#[tactic(auto, unfolding(crate::specs::Witness::IsInTheWay))]
+#[tactic(auto, unfolding(crate::specs::Witness::IsConflicting))]
 fn is_own_conflict(pkg: &Pkg<'_>, other: &StateRecord<'_, '_>) -> bool
-    ensures { IsTrue result ↔ IsInTheWay ways.Own pkg.now other.now }
+    ensures { IsTrue result ↔ IsConflicting directions.Own pkg.now other.now }
 {
     match other.present_pkg() {
         None => false,
@@ -41,9 +42,9 @@ fn is_own_conflict(pkg: &Pkg<'_>, other: &StateRecord<'_, '_>) -> bool
 }
 
 // Whether the record is of a present package of another name that conflicts with the package.
-#[tactic(auto, unfolding(crate::specs::Witness::IsInTheWay))]
+#[tactic(auto, unfolding(crate::specs::Witness::IsConflicting))]
 fn is_other_conflict(pkg: &Pkg<'_>, other: &StateRecord<'_, '_>) -> bool
-    ensures { IsTrue result ↔ IsInTheWay ways.Other pkg.now other.now }
+    ensures { IsTrue result ↔ IsConflicting directions.Other pkg.now other.now }
 {
     match other.present_pkg() {
         None => false,
@@ -53,8 +54,9 @@ fn is_other_conflict(pkg: &Pkg<'_>, other: &StateRecord<'_, '_>) -> bool
 
 /// The first present package of another name with which the package conflicts, if there is one.
 pub fn own_conflict<'v, 'a>(db: &'v Records<'_, 'a>, pkg: &Pkg<'_>) -> Option<&'a [u8]>
-    ensures { MatchOption result (All (λ other. ¬ IsInTheWay ways.Own pkg.now other) db.now)
-        (λ name. HasRecord (IsInTheWay ways.Own pkg.now) name.now db.now) }
+    ensures { MatchOption result
+        (All (λ other. ¬ IsConflicting directions.Own pkg.now other) db.now)
+        (λ name. HasRecord (IsConflicting directions.Own pkg.now) name.now db.now) }
 {
     match db
         .as_slice()
@@ -62,14 +64,15 @@ pub fn own_conflict<'v, 'a>(db: &'v Records<'_, 'a>, pkg: &Pkg<'_>) -> Option<&'
         .find(|other| is_own_conflict(pkg, other))
     {
         None => None,
-        Some(found) => Some(found.name()),
+        Some(entry) => Some(entry.name()),
     }
 }
 
 // The first present package of another name that conflicts with the package.
 fn other_conflict<'v, 'a>(db: &'v Records<'_, 'a>, pkg: &Pkg<'_>) -> Option<&'a [u8]>
-    ensures { MatchOption result (All (λ other. ¬ IsInTheWay ways.Other pkg.now other) db.now)
-        (λ name. HasRecord (IsInTheWay ways.Other pkg.now) name.now db.now) }
+    ensures { MatchOption result
+        (All (λ other. ¬ IsConflicting directions.Other pkg.now other) db.now)
+        (λ name. HasRecord (IsConflicting directions.Other pkg.now) name.now db.now) }
 {
     match db
         .as_slice()
@@ -77,36 +80,38 @@ fn other_conflict<'v, 'a>(db: &'v Records<'_, 'a>, pkg: &Pkg<'_>) -> Option<&'a 
         .find(|other| is_other_conflict(pkg, other))
     {
         None => None,
-        Some(found) => Some(found.name()),
+        Some(entry) => Some(entry.name()),
     }
 }
 
 // The present package that conflicts, with which the package conflicts sooner than the other way.
-fn conflict<'a>(db: &Records<'_, 'a>, pkg: &Pkg<'_>) -> Option<(Way, &'a [u8])>
+fn conflict<'a>(db: &Records<'_, 'a>, pkg: &Pkg<'_>) -> Option<(Direction, &'a [u8])>
     ensures { MatchOption result (HasNoConflict db.now pkg.now)
-        (λ found. HasRecord (IsInTheWay found.0 pkg.now) found.1.now db.now) }
+        (λ other. HasRecord (IsConflicting other.0 pkg.now) other.1.now db.now) }
 {
     match own_conflict(db, pkg) {
-        Some(name) => Some((Way::Own, name)),
+        Some(name) => Some((Direction::Own, name)),
         None => match other_conflict(db, pkg) {
             None => None,
-            Some(name) => Some((Way::Other, name)),
+            Some(name) => Some((Direction::Other, name)),
         },
     }
 }
 
-fn in_the_way(
+fn conflicting_package(
     alloc: Global,
     db: &Records<'_, '_>,
     pkg: &Pkg<'_>,
 ) -> Result<Option<Witness>, AllocError>
-    ensures { IfOk result (λ found. MatchOption found (HasNoConflict db.now pkg.now) (IsAgainstUnpack db.now pkg.now rules.Conflict)) }
+    ensures { IfOk result
+        (λ witness. MatchOption witness (HasNoConflict db.now pkg.now)
+        (IsAgainstUnpack db.now pkg.now rules.Conflict)) }
 {
     match conflict(db, pkg) {
         None => Ok(None),
-        Some((way, name)) => {
+        Some((direction, name)) => {
             let name = Text::copied_from(alloc, name)?;
-            Ok(Some(Witness::InTheWay(way, name)))
+            Ok(Some(Witness::Conflicting(direction, name)))
         }
     }
 }
@@ -131,12 +136,18 @@ pub fn first_broken<'a>(db: &Records<'_, 'a>, pkg: &Pkg<'_>) -> Option<&'a [u8]>
 {
     match db.as_slice().iter().find(|other| is_broken(pkg, other)) {
         None => None,
-        Some(found) => Some(found.name()),
+        Some(entry) => Some(entry.name()),
     }
 }
 
-fn broken(alloc: Global, db: &Records<'_, '_>, pkg: &Pkg<'_>) -> Result<Option<Witness>, AllocError>
-    ensures { IfOk result (λ found. MatchOption found (BreaksNone db.now pkg.now) (IsAgainstUnpack db.now pkg.now rules.Breaks)) }
+fn broken_package(
+    alloc: Global,
+    db: &Records<'_, '_>,
+    pkg: &Pkg<'_>,
+) -> Result<Option<Witness>, AllocError>
+    ensures { IfOk result
+        (λ witness. MatchOption witness (BreaksNone db.now pkg.now)
+        (IsAgainstUnpack db.now pkg.now rules.Breaks)) }
 {
     match first_broken(db, pkg) {
         None => Ok(None),
@@ -152,14 +163,16 @@ pub(crate) fn against_unpack(
     listed: Option<&IndexPackage<'_>>,
     rule: Rule,
 ) -> Result<Option<Witness>, AllocError>
-    ensures { IfOk result (λ found. MatchOption found
-        ((name version : List ℕ) → unpack_has_witness rule ≡ true → UnpackAsks (option_copied listed.entry) db.now name version rule)
-        (λ witness. MatchOption (option_copied listed.entry) ⊥ (λ it. IsAgainstUnpack db.now it.pkg rule witness))) }
+    ensures { IfOk result (λ maybe_witness. MatchOption maybe_witness
+        ((name version : List ℕ) → unpack_has_witness rule ≡ true
+        → UnpackAsks (option_copied listed.entry) db.now name version rule)
+        (λ witness. MatchOption (option_copied listed.entry) ⊥
+        (λ it. IsAgainstUnpack db.now it.pkg rule witness))) }
 {
     match (rule, listed) {
-        (Rule::PreDepends, Some(listed)) => Ok(unsatisfied(db, listed.pkg())),
-        (Rule::Conflict, Some(listed)) => in_the_way(alloc, db, listed.pkg()),
-        (Rule::Breaks, Some(listed)) => broken(alloc, db, listed.pkg()),
+        (Rule::PreDepends, Some(listed)) => Ok(unsatisfied_clause(db, listed.pkg())),
+        (Rule::Conflict, Some(listed)) => conflicting_package(alloc, db, listed.pkg()),
+        (Rule::Breaks, Some(listed)) => broken_package(alloc, db, listed.pkg()),
         _ => Ok(None),
     }
 }

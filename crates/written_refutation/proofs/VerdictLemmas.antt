@@ -16,7 +16,7 @@ use Rattle.written_refutation.specs.Judged.{HasOneVerdict, NamedIsAccepted, line
 -- lines that are all good have no first bad one
 no_bad : (u : Universe) (lines : List Line) (number : ℕ) → IsFirstNotGood u lines number → AreGoodLines u lines → ⊥
 unfolding AreGoodLines
-no_bad u lines number first good = first.bad (good first.earlier first.rest first.found first.place)
+no_bad u lines number first good = first.bad (good first.earlier first.rest first.line first.place)
 
 -- the first bad line is one
 one_bad : (u : Universe) (lines : List Line) (missing : Option Missing) (first second : ℕ) → IsFirstBadBehind u lines missing first
@@ -42,13 +42,13 @@ one_verdict u numbered (No number) Yes is also = absurd (not_both u numbered num
 one_verdict u numbered (No number) (No other) is also = ap No (one_bad u numbered.lines numbered.missing number other is also)
 
 pub has_one_verdict : HasOneVerdict
-has_one_verdict u found first second is also = one_verdict u (lines_of u.pairs found) first second is also
+has_one_verdict u written first second is also = one_verdict u (lines_of u.pairs written) first second is also
 
 pub named_is_accepted : NamedIsAccepted
-named_is_accepted u lines found ascending named accepted = record {
+named_is_accepted u lines refutation ascending named accepted = record {
   none_missing = ap (λ (n : NumberedLines). n.missing) again;
   accepted = subst (λ (n : NumberedLines). IsAccepted u n.lines) (sym again) accepted;
 }
   where
-    again : numbered_lines u.pairs found.lines ≡ record { lines = lines; missing = None }
-    again = refutation_again u.pairs lines found ascending named
+    again : numbered_lines u.pairs refutation.lines ≡ record { lines = lines; missing = None }
+    again = refutation_again u.pairs lines refutation ascending named

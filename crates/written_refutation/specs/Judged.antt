@@ -20,19 +20,19 @@ lines_of pairs (written.Named refutation) = numbered_lines pairs refutation.line
 
 -- accepted: no line names a missing pair, and the lines by numbers are accepted
 abbrev pub IsWrittenAccepted : Universe → WrittenRefutation → Type 0
-IsWrittenAccepted u found = AreAccepted u (lines_of u.pairs found)
+IsWrittenAccepted u written = AreAccepted u (lines_of u.pairs written)
 
 -- the verdict on it: yes exactly where it is accepted, and else the number of the first line that names a missing pair or is bad, or
 -- of the one that is missing behind the last
 abbrev pub IsWrittenVerdict : Universe → WrittenRefutation → Verdict → Type 0
-IsWrittenVerdict u found said = IsVerdictOn u (lines_of u.pairs found) said
+IsWrittenVerdict u written said = IsVerdictOn u (lines_of u.pairs written) said
 
 -- a refutation has one verdict over a universe
 abbrev pub HasOneVerdict : Type 0
-HasOneVerdict = (u : Universe) (found : WrittenRefutation) (first second : Verdict) → IsWrittenVerdict u found first
-    → IsWrittenVerdict u found second → first ≡ second
+HasOneVerdict = (u : Universe) (written : WrittenRefutation) (first second : Verdict) → IsWrittenVerdict u written first
+    → IsWrittenVerdict u written second → first ≡ second
 
 -- lines that are accepted are so where their pairs are named, over pairs that ascend
 abbrev pub NamedIsAccepted : Type 0
-NamedIsAccepted = (u : Universe) (lines : List Line) (found : NamedRefutation) → IsStrictlySortedBy pair_cmp u.pairs
-    → refutation_named u.pairs lines ≡ Some found → IsAccepted u lines → IsWrittenAccepted u (written.Named found)
+NamedIsAccepted = (u : Universe) (lines : List Line) (refutation : NamedRefutation) → IsStrictlySortedBy pair_cmp u.pairs
+    → refutation_named u.pairs lines ≡ Some refutation → IsAccepted u lines → IsWrittenAccepted u (written.Named refutation)

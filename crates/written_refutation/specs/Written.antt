@@ -18,7 +18,7 @@ names_pairs text = starts_with nat_eq text (codes "refutation 2\n")
 
 -- what is read, as a refutation that is written so
 abbrev pub written_as : {A : Type 0} → (A → WrittenRefutation) → Result A RefutationFault → Result WrittenRefutation RefutationFault
-written_as write (Ok found) = Ok (write found)
+written_as write (Ok value) = Ok (write value)
 written_as write (Err fault) = Err fault
 
 -- the refutation of a text, or its first refusal

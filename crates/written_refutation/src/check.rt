@@ -6,7 +6,7 @@ ghost use Rattle.refutecheck.specs.Answer.{Refutes};
 ghost use Rattle.written_refutation.specs.Judged as Spec;
 
 use crate::written::WrittenRefutation;
-use named_lines::{NumberedLines, check_named, numbered};
+use named_lines::{NumberedLines, check_named, number_pairs};
 use refutecheck::{Verdict, check_refutation};
 use std::alloc::{AllocError, Global};
 use universe::Universe;
@@ -33,11 +33,13 @@ pub fn check_written(
     // no two facts of the start are about one name, as of a status file
     requires distinct { HaveDistinctNames universe.now.starts }
     // yes exactly where the refutation is accepted, and else the number of the first bad line
-    ensures exact { IfOk result (λ judged. Spec.IsWrittenVerdict universe.now written judged.verdict) }
+    ensures exact { IfOk result
+        (λ judged. Spec.IsWrittenVerdict universe.now written judged.verdict) }
     // where the answer is yes, no selection is acceptable
     ensures refutes { IfOk result (λ judged. Refutes universe.now judged.verdict) }
     // the lines are those by numbers
-    ensures lines { IfOk result (λ judged. judged.numbered ≡ Spec.lines_of universe.now.pairs written) }
+    ensures lines { IfOk result
+        (λ judged. judged.numbered ≡ Spec.lines_of universe.now.pairs written) }
 {
     match written {
         WrittenRefutation::Numbered(lines) => {
@@ -52,7 +54,7 @@ pub fn check_written(
         }
         WrittenRefutation::Named(refutation) => {
             let verdict = check_named(alloc, universe, &refutation)?;
-            let numbered = numbered(alloc, universe, &refutation)?;
+            let numbered = number_pairs(alloc, universe, &refutation)?;
             Ok(JudgedLines { verdict, numbered })
         }
     }

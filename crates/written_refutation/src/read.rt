@@ -20,7 +20,7 @@ fn names_pairs(text: &[u8]) -> bool
 /// of the version. Linear in the text.
 #[tactic(auto, unfolding(crate::specs::Written::read_written))]
 pub fn read_written(alloc: Global, text: &[u8]) -> Result<WrittenRefutation, RefutationError>
-    ensures ok { IfOk result (λ found. Spec.read_written text.now ≡ Ok found) }
+    ensures ok { IfOk result (λ written. Spec.read_written text.now ≡ Ok written) }
     ensures err { IfErr result (λ e. IsRefutationFault e (Spec.read_written text.now)) }
 {
     if names_pairs(text) {

@@ -3,7 +3,7 @@
 ghost use Rattle.std.specs.Prelude.{◌≡◌, IfOk};
 ghost use Rattle.written_refutation.specs.Written as Spec;
 
-use named_lines::named;
+use named_lines::name_pairs;
 use named_refutation::write_named_refutation;
 use refutation::Refutation;
 use refutation_text::write_refutation;
@@ -18,11 +18,12 @@ pub fn write_naming(
     universe: &Universe<'_, '_>,
     refutation: &Refutation,
 ) -> Result<Vec<u8>, AllocError>
-    ensures { IfOk result (λ text. text.items ≡ Spec.naming_text universe.now.pairs refutation.now) }
+    ensures { IfOk result
+        (λ text. text.items ≡ Spec.naming_text universe.now.pairs refutation.now) }
 {
-    match named(alloc, universe, refutation)? {
-        Some(found) => {
-            let text = write_named_refutation(alloc, &found)?;
+    match name_pairs(alloc, universe, refutation)? {
+        Some(named) => {
+            let text = write_named_refutation(alloc, &named)?;
             Ok(text)
         }
         None => {

@@ -19,7 +19,7 @@ pub returns-in-Ok : goal.returns-in-Ok
 returns-in-Ok c =
     let bytes = c.args.bytes.now in
     IfOk-weaker c.member_of.result _ _
-    (λ member is. ap (λ found. unwrap_or found bytes) (is ∙ ap text_member c.in-Ok.ensures.cases.0)
+    (λ member is. ap (λ own. unwrap_or own bytes) (is ∙ ap text_member c.in-Ok.ensures.cases.0)
     ∙ sym (held bytes true (is_utf8-from_IsUtf8 bytes c.in-Ok.ensures.cases.1))) c.member_of.ensures
 
 pub returns-in-Err : goal.returns-in-Err

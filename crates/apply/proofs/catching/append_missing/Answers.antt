@@ -6,9 +6,9 @@ use Rattle.journal.specs.declared.ledger.Ledger.{Ledger}
 use Rattle.journal.specs.Adding.{recorded_of}
 use Rattle.journal.specs.History.{History}
 use Rattle.journal.specs.Ledger.{history_of}
-use Rattle.journal.specs.Payload.{Recorded}
+use Rattle.journal.specs.Payload.{RecordedStep}
 use Rattle.apply.specs.Planned.{planned}
-use Rattle.apply.specs.Progress.{IsPartWay}
+use Rattle.apply.specs.Progress.{IsPartTaken}
 use Rattle.apply.proofs.PlanLemmas.{left_is, length-plan, missing_is, next_is, no_longer}
 use Rattle.apply.proofs.ProgressLemmas.{at_start, begun, kept_by, one_more, runs_on, still_stopped}
 use Rattle.apply.proofs.catching.append_missing.Goals as goal
@@ -25,8 +25,8 @@ loop-i-init g c =
       begun = omega (arith, ap length had);
       first = λ none. (refl, refl);
       broken = λ yes. (refl, refl);
-      part_way = begun plan old c.requires.begun;
-      left = subst (λ (l : List Recorded). plan ≡ old.steps ++ planned (drop (length l) steps) (drop (length l) texts)) (sym had)
+      part_taken = begun plan old c.requires.begun;
+      left = subst (λ (l : List RecordedStep). plan ≡ old.steps ++ planned (drop (length l) steps) (drop (length l) texts)) (sym had)
           (missing_is steps texts old.steps c.requires.begun);
       honest = (λ h. h, λ h. h);
       run = λ honest settled. at_start plan c.args.ledger.now (g.D.Disk.facts c.args.disk.now) settled;
@@ -43,7 +43,7 @@ returns-in-Err-clause-any_moment g c = λ honest settled.
     let known = c.loop-i.invariant in
     let now = c.loop-i.ledger in
     runs_on (planned steps texts) (history_of c.args.ledger.now) now (recorded_of s (option_copied (get_or c.args.texts.now i None)))
-    (planned (drop (i + 1) steps) (drop (i + 1) texts)) (g.D.Disk.facts c.args.disk.now) (g.D.Disk.facts c.loop-i.disk) (g.D.Disk.facts c.append.new.disk) known.part_way
+    (planned (drop (i + 1) steps) (drop (i + 1) texts)) (g.D.Disk.facts c.args.disk.now) (g.D.Disk.facts c.loop-i.disk) (g.D.Disk.facts c.append.new.disk) known.part_taken
     (next_is steps c.args.texts.now (history_of now).steps i s c.loop-i-test.true c.requires.texts c.index-steps-i.is known.left)
     (known.settled honest settled) (known.run honest settled)
     (c.append.ensures.any_moment (known.honest.1 honest) (known.settled honest settled))
@@ -103,11 +103,11 @@ loop-i-preserved g c =
       begun = omega (arith, known.begun);
       first = λ none. absurd (omega (arith, known.begun, none));
       broken = λ yes. absurd (cc (done.reopen (subst (λ (l : Ledger). l.broken ≡ true) (sym (known.broken yes).0) yes)));
-      part_way = subst (λ (h : History). IsPartWay plan old h) (sym done.follows) (one_more plan old (history_of now) r later known.part_way next done.taken);
+      part_taken = subst (λ (h : History). IsPartTaken plan old h) (sym done.follows) (one_more plan old (history_of now) r later known.part_taken next done.taken);
       left = left_is plan (history_of now).steps (history_of c.append.new.ledger).steps r later next (ap (λ (h : History). h.steps) done.follows);
       honest = (λ h. known.honest.0 (c.append.ensures.honest.0 h), λ h. c.append.ensures.honest.1 (known.honest.1 h));
       run = λ honest settled.
-          runs_on plan old now r later (g.D.Disk.facts c.args.disk.now) (g.D.Disk.facts c.loop-i.disk) (g.D.Disk.facts c.append.new.disk) known.part_way next
+          runs_on plan old now r later (g.D.Disk.facts c.args.disk.now) (g.D.Disk.facts c.loop-i.disk) (g.D.Disk.facts c.append.new.disk) known.part_taken next
           (known.settled honest settled) (known.run honest settled)
           (c.append.ensures.any_moment (known.honest.1 honest) (known.settled honest settled));
       settled = λ honest settled. done.settled (known.honest.1 honest) (known.settled honest settled);

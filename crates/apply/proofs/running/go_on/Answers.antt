@@ -91,7 +91,7 @@ returns-clause-run g c honest seen =
         shown,
         record {
           h = history_of c.finish.new.ledger;
-          way = c.in-Err-finish.ensures.remembered;
+          up_to = c.in-Err-finish.ensures.remembered;
           count = ap length c.history.ensures;
           leaves = c.in-Err-finish.ensures.acknowledged still settled;
         },

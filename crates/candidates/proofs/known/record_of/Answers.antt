@@ -14,11 +14,11 @@ returns-in-Ok c =
     got _ c.get.result c.args.known.now c.in-Ok.place within (c.get.ensures.lookup.2 within) (c.get.ensures.lookup.4 (omega arith))
     ∙ searched_record c.args.known.now c.args.name.now c.in-Ok.place c.requires
     within
-    (subst (λ (r : Result ℕ ℕ). IsBinarySearchResult (λ (found : Record). name_cmp found.name c.args.name.now) c.args.known.now r) c.in-Ok.is
-    (c.binary_search_by.ensures.position (λ (found : Record). name_cmp found.name c.args.name.now) (always_returns_same _ _ _ (λ a r f k. search rules))))
+    (subst (λ (r : Result ℕ ℕ). IsBinarySearchResult (λ (entry : Record). name_cmp entry.name c.args.name.now) c.args.known.now r) c.in-Ok.is
+    (c.binary_search_by.ensures.position (λ (entry : Record). name_cmp entry.name c.args.name.now) (always_returns_same _ _ _ (λ a r f k. search rules))))
 
 pub returns-in-Err : goal.returns-in-Err
 returns-in-Err c = searched_no_record c.args.known.now c.args.name.now c.in-Err.field-0 c.requires
     (subst (λ (r : Result ℕ ℕ). IsSearchInRange r (length c.args.known.now)) c.in-Err.is c.binary_search_by.ensures.bound)
-    (subst (λ (r : Result ℕ ℕ). IsBinarySearchResult (λ (found : Record). name_cmp found.name c.args.name.now) c.args.known.now r) c.in-Err.is
-    (c.binary_search_by.ensures.position (λ (found : Record). name_cmp found.name c.args.name.now) (always_returns_same _ _ _ (λ a r f k. search rules))))
+    (subst (λ (r : Result ℕ ℕ). IsBinarySearchResult (λ (entry : Record). name_cmp entry.name c.args.name.now) c.args.known.now r) c.in-Err.is
+    (c.binary_search_by.ensures.position (λ (entry : Record). name_cmp entry.name c.args.name.now) (always_returns_same _ _ _ (λ a r f k. search rules))))

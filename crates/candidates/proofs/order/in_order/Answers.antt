@@ -9,5 +9,5 @@ use Rattle.candidates.proofs.order.in_order.Goals as goal
 
 pub returns : goal.returns
 returns c = IsOrdered-dedup c.args.sorted.now c.dedup.new.self.items c.requires
-    (dedup_is (eq_by_cmp listed_cmp) c.in_ok-found.found.items c.dedup.new.self.items c.dedup.ensures.filtered
-    ∙ ap (dedup (eq_by_cmp listed_cmp)) c.in_ok-found.ensures)
+    (dedup_is (eq_by_cmp listed_cmp) c.in_ok-stanzas.stanzas.items c.dedup.new.self.items c.dedup.ensures.filtered
+    ∙ ap (dedup (eq_by_cmp listed_cmp)) c.in_ok-stanzas.ensures)

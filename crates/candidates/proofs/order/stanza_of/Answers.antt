@@ -14,11 +14,11 @@ returns-in-Ok c =
     got _ c.get.result c.args.ordered.now c.in-Ok.place within (c.get.ensures.lookup.2 within) (c.get.ensures.lookup.4 (omega arith))
     ∙ searched_stanza c.args.ordered.now c.args.name.now c.args.version.now c.in-Ok.place c.requires
     within
-    (subst (λ (r : Result ℕ ℕ). IsBinarySearchResult (λ (found : IndexPackage). pkg_order found.pkg c.args.name.now c.args.version.now) c.args.ordered.now r) c.in-Ok.is
-    (c.binary_search_by.ensures.position (λ (found : IndexPackage). pkg_order found.pkg c.args.name.now c.args.version.now) (always_returns_same _ _ _ (λ a r f k. search rules))))
+    (subst (λ (r : Result ℕ ℕ). IsBinarySearchResult (λ (stanza : IndexPackage). pkg_order stanza.pkg c.args.name.now c.args.version.now) c.args.ordered.now r) c.in-Ok.is
+    (c.binary_search_by.ensures.position (λ (stanza : IndexPackage). pkg_order stanza.pkg c.args.name.now c.args.version.now) (always_returns_same _ _ _ (λ a r f k. search rules))))
 
 pub returns-in-Err : goal.returns-in-Err
 returns-in-Err c = searched_no_stanza c.args.ordered.now c.args.name.now c.args.version.now c.in-Err.field-0 c.requires
     (subst (λ (r : Result ℕ ℕ). IsSearchInRange r (length c.args.ordered.now)) c.in-Err.is c.binary_search_by.ensures.bound)
-    (subst (λ (r : Result ℕ ℕ). IsBinarySearchResult (λ (found : IndexPackage). pkg_order found.pkg c.args.name.now c.args.version.now) c.args.ordered.now r) c.in-Err.is
-    (c.binary_search_by.ensures.position (λ (found : IndexPackage). pkg_order found.pkg c.args.name.now c.args.version.now) (always_returns_same _ _ _ (λ a r f k. search rules))))
+    (subst (λ (r : Result ℕ ℕ). IsBinarySearchResult (λ (stanza : IndexPackage). pkg_order stanza.pkg c.args.name.now c.args.version.now) c.args.ordered.now r) c.in-Err.is
+    (c.binary_search_by.ensures.position (λ (stanza : IndexPackage). pkg_order stanza.pkg c.args.name.now c.args.version.now) (always_returns_same _ _ _ (λ a r f k. search rules))))

@@ -3,5 +3,5 @@ use Rattle.std.proofs.Common.{drop}
 use Rattle.candidates.proofs.Alone.{AreAlone}
 use Rattle.candidates.proofs.rated.standing_offers.Given as goal
 
-abbrev pub invariant-loop-found : goal.invariant-loop-found
-invariant-loop-found l = AreAlone l.prefs l.known l.places (drop l.found-index l.known) l.offers.items
+abbrev pub invariant-loop-entry : goal.invariant-loop-entry
+invariant-loop-entry l = AreAlone l.prefs l.known l.places (drop l.entry-index l.known) l.offers.items

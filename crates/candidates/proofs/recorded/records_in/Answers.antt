@@ -11,6 +11,6 @@ map_twice (x ∷ xs) f g = ap (λ (rest : List _). g (f x) ∷ rest) (map_twice 
 
 pub returns : goal.returns
 returns c = subst (λ (records : List Record). IfOk c.collect.result (λ recorded. recorded.items ≡ records))
-    (sym (map_twice c.args.start.now (λ r. r.now) (λ (entry : FileRecord). entry.found)))
+    (sym (map_twice c.args.start.now (λ r. r.now) (λ (entry : FileRecord). entry.status)))
     (items_from_collect c.collect.result c.collect.ensures.ran
-    (YieldsList-from_map _ (λ r. r.now.found) (YieldsList-from_slice c.args.start.now cc) c.map.ensures.closure (λ x r q k. search rules)))
+    (YieldsList-from_map _ (λ r. r.now.status) (YieldsList-from_slice c.args.start.now cc) c.map.ensures.closure (λ x r q k. search rules)))

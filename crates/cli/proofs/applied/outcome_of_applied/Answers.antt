@@ -27,5 +27,5 @@ returns-in-None-clause-left g c at was f k =
     left_so at was (g.H.Host.files c.outcome_of_said.new.host) (g.H.Host.kept c.outcome_of_said.new.host)
     (IsLeftOfPrepared honest facts said.result journal output at was)
     (IsLeftOfPlanTaken honest facts (texts_at at arguments) (judged_at at arguments.paths.judged.now) (paths_read arguments.paths) journal output at was)
-    (λ found is. inr (apart, (said.result, said.ensures.said at f, is)))
+    (λ outcome is. inr (apart, (said.result, said.ensures.said at f, is)))
     c.outcome_of_said.result (c.outcome_of_said.ensures.left at was (said.ensures.same ∙ f) (said.ensures.keeps ∙ k))

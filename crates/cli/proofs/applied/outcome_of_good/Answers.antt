@@ -20,4 +20,4 @@ returns-in-None-clause-left g c at was f k =
     left_so at was (g.H.Host.files c.outcome_of_ready.new.host) (g.H.Host.kept c.outcome_of_ready.new.host)
     (IsLeftOfReady honest facts c.args.plan.now journal output at was)
     (IsLeftOfGood honest facts c.args.plan.now journal output at was)
-    (λ found is. inr (apart, is)) c.outcome_of_ready.result (c.outcome_of_ready.ensures.left at was f k)
+    (λ outcome is. inr (apart, is)) c.outcome_of_ready.result (c.outcome_of_ready.ensures.left at was f k)

@@ -11,5 +11,5 @@ pub returns-in-Err : goal.returns-in-Err
 returns-in-Err g c = (
   outcome.Complaint (codes "debplan: memory: E1 OutOfMemory\n") exit.Device,
   inr refl,
-  (c.refuse_for_memory.ensures, refl),
+  (c.refuse_for_memory.ensures.status, refl, c.refuse_for_memory.ensures.said),
 )

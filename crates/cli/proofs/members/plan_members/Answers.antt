@@ -1,7 +1,7 @@
 -- The steps are put, and last the verdict.
 use Rattle.std.proofs.Common.{List, subst}
 use Rattle.cli.proofs.members.plan_members.Goals as goal
-use Rattle.documents.specs.Steps.{AreWithSteps}
+use Rattle.json_answers.specs.Steps.{AreWithSteps}
 use Rattle.rules.specs.declared.step.Step.{Step}
 use Rattle.serde_json.specs.View.{members_view}
 

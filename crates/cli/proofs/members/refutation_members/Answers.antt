@@ -2,7 +2,7 @@
 use Rattle.std.proofs.Common.{◌∙◌, Option, ap, ℕ}
 use Rattle.cli.proofs.members.refutation_members.Goals as goal
 use Rattle.cli.specs.Members.{bad_line_of, with_reasons}
-use Rattle.documents.specs.Objects.{with_bad_line}
+use Rattle.json_answers.specs.Objects.{with_bad_line}
 use Rattle.serde_json.specs.View.{members_view}
 
 pub returns : goal.returns

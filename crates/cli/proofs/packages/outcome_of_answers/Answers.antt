@@ -30,8 +30,8 @@ pub returns-in-Some-clause-left : goal.returns-in-Some-clause-left
 returns-in-Some-clause-left g c at was f k =
     let files = g.H.Host.files c.put_files.new.host in
     let kept = g.H.Host.kept c.put_files.new.host in
-    let found = c.in-Some.unwritten in
-    inr (subst (λ (all : List Placed). (stopped : IsStopped all at was files kept) × IsFileUnwritten stopped.file.path found)
+    let outcome = c.in-Some.unwritten in
+    inr (subst (λ (all : List Placed). (stopped : IsStopped all at was files kept) × IsFileUnwritten stopped.file.path outcome)
     (c.as_slice.ensures.value ∙ c.in_ok-files.ensures)
-    (some_of_files c.as_slice.result.now c.in_ok-put_files.field-0 found at was files kept c.in-Some.is
+    (some_of_files c.as_slice.result.now c.in_ok-put_files.field-0 outcome at was files kept c.in-Some.is
     (c.in_ok-put_files.ensures.left at was f k)))

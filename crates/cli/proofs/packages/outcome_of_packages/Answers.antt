@@ -26,5 +26,5 @@ returns-clause-left g c at was f k =
     left_so at was (g.H.Host.files c.outcome_of_said.new.host) (g.H.Host.kept c.outcome_of_said.new.host)
     (IsLeftOfSurveyIn folder written said.said at was)
     (IsLeftOfPackages (texts_at at c.args.arguments.now) (survey_by c.args.survey.now) folder written at was)
-    (λ found is. (said.said, (c.question_of-question.result, c.question_of-question.ensures, said.ensures.said at f), is))
+    (λ outcome is. (said.said, (c.question_of-question.result, c.question_of-question.ensures, said.ensures.said at f), is))
     c.outcome_of_said.result (c.outcome_of_said.ensures.left at was (said.ensures.same ∙ f) (said.ensures.keeps ∙ k))

@@ -20,7 +20,7 @@ returns-in-Ok-clause-printed g c at known =
     subst (λ (r : Result Left Refusal). IsSaidOfLeft texts c.args.limit written r) c.in-Ok.is (c.in_ok-left.ensures.said at known) in
     if_ok c.outcome_of_left.result (IsPrintedWhere output c.in-Ok.left.printed)
     (IsOutcomeOfPossible texts c.args.limit output written)
-    (λ found is. (Ok said.0, said.1, (c.in-Ok.left.printed, said.2, is))) c.outcome_of_left.ensures.printed
+    (λ outcome is. (Ok said.0, said.1, (c.in-Ok.left.printed, said.2, is))) c.outcome_of_left.ensures.printed
 
 pub returns-in-Err-clause-printed : goal.returns-in-Err-clause-printed
 returns-in-Err-clause-printed g c at known =
@@ -31,7 +31,7 @@ returns-in-Err-clause-printed g c at known =
     subst (λ (r : Result Left Refusal). IsSaidOfLeft texts c.args.limit written r) c.in-Err.is (c.in_ok-left.ensures.said at known) in
     if_ok c.outcome_of_refusal.result (IsOutcomeOfRefusal c.in-Err.refusal)
     (IsOutcomeOfPossible texts c.args.limit output written)
-    (λ found is. (Err c.in-Err.refusal, said, is)) c.outcome_of_refusal.ensures
+    (λ outcome is. (Err c.in-Err.refusal, said, is)) c.outcome_of_refusal.ensures
 
 pub returns-in_err-left-clause-left : goal.returns-in_err-left-clause-left
 returns-in_err-left-clause-left g c at was f k =
@@ -50,10 +50,10 @@ returns-in-Ok-clause-left g c at was f k =
     let said : IsSaidOfLeft texts c.args.limit written (Ok left) =
     subst (λ (r : Result Left Refusal). IsSaidOfLeft texts c.args.limit written r) c.in-Ok.is (c.in_ok-left.ensures.said at f) in
     left_so at was files kept (IsLeftOfKept output left.request left.printed at was) (IsLeftOfPossible texts c.args.limit output written at was)
-    (λ found is. (
+    (λ outcome is. (
       Ok said.0,
       said.1,
-      (left.printed, said.2, subst (λ (request : List ℕ). IsLeftOfKept output request left.printed at was found files kept) said.3 is),
+      (left.printed, said.2, subst (λ (request : List ℕ). IsLeftOfKept output request left.printed at was outcome files kept) said.3 is),
     ))
     c.outcome_of_left.result (c.outcome_of_left.ensures.left at was (c.in_ok-left.ensures.same ∙ f) (c.in_ok-left.ensures.keeps ∙ k))
 
@@ -65,5 +65,5 @@ returns-in-Err-clause-left g c at was f k =
     let said : IsSaidOfLeft texts c.args.limit written (Err c.in-Err.refusal) =
     subst (λ (r : Result Left Refusal). IsSaidOfLeft texts c.args.limit written r) c.in-Err.is (c.in_ok-left.ensures.said at f) in
     all_left at was _ _ (IsOutcomeOfRefusal c.in-Err.refusal) (IsLeftOfPossible texts c.args.limit output written at was)
-    (λ found is same. (Err c.in-Err.refusal, said, (is, same)))
+    (λ outcome is same. (Err c.in-Err.refusal, said, (is, same)))
     c.outcome_of_refusal.result c.outcome_of_refusal.ensures (c.in_ok-left.ensures.same ∙ f, c.in_ok-left.ensures.keeps ∙ k)

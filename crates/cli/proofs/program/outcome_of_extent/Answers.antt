@@ -15,7 +15,7 @@ returns-in-Whole-clause-left g c at was f k =
     let written = c.args.arguments.now.format in
     rw c.in-Whole.is (all_left at was _ _ (IsOutcomeOfRequest texts c.args.limit c.in-Whole.names_pairs written)
     (IsLeftOfExtent texts c.args.limit (whole c.in-Whole.names_pairs) written at was)
-    (λ found is same. (is, same)) c.outcome_of_request.result (c.outcome_of_request.ensures.printed at f)
+    (λ outcome is same. (is, same)) c.outcome_of_request.result (c.outcome_of_request.ensures.printed at f)
     (c.outcome_of_request.ensures.same ∙ f, c.outcome_of_request.ensures.keeps ∙ k))
 
 pub returns-in-Possible-clause-printed : goal.returns-in-Possible-clause-printed

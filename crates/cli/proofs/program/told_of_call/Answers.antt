@@ -2,6 +2,7 @@
 use Rattle.std.proofs.Common.{◌≡◌, ◌∙◌, [], Some, refl}
 use Rattle.cli.proofs.ResultLemmas.{over_ok}
 use Rattle.cli.proofs.ToldLemmas.{later_left, later_told, left_of_batch, of_batch}
+use Rattle.outcomes.specs.Outcome.{streams_on}
 use Rattle.cli.proofs.program.told_of_call.Goals as goal
 use Rattle.cli.specs.Calls.{IsOutcomeOfAsked, texts_at}
 use Rattle.cli.specs.Files.{Files}
@@ -13,13 +14,13 @@ pub returns-in-None-clause-printed : goal.returns-in-None-clause-printed
 returns-in-None-clause-printed g c =
     let files = g.H.Host.files c.args.host.now in
     let asked = asked_by c.args.call.now in
-    let out = g.W.Write.contents c.args.out.now in
+    let out = streams_on g.W.Write.contents g.E.Write.contents c.args.out.now c.args.err.now in
     rw c.to_print.ensures (later_told c.outcome_of_call.result (IsOutcomeOfCall files asked) out out refl
-    (over_ok c.outcome_of_call.result (λ (at : Files). files ≡ Some at) (λ at found. IsOutcomeOfAsked at asked found) c.outcome_of_call.ensures.printed))
+    (over_ok c.outcome_of_call.result (λ (at : Files). files ≡ Some at) (λ at outcome. IsOutcomeOfAsked at asked outcome) c.outcome_of_call.ensures.printed))
 
 pub returns-in-None-clause-left : goal.returns-in-None-clause-left
 returns-in-None-clause-left g c at was f k =
-    let out = g.W.Write.contents c.args.out.now in
+    let out = streams_on g.W.Write.contents g.E.Write.contents c.args.out.now c.args.err.now in
     rw c.to_print.ensures (later_left at was (g.H.Host.files c.outcome_of_call.new.host) (g.H.Host.kept c.outcome_of_call.new.host) out out
     (IsLeftOfAsked g.H.Journal.Disk.honest g.H.Journal.Disk.facts (asked_by c.args.call.now) at was) c.outcome_of_call.result
     (c.outcome_of_call.ensures.left at was f k))

@@ -3,7 +3,7 @@ use Rattle.std.proofs.Common.{◌∙◌, Global, IfOk, List, Vec, subst, ℕ}
 use Rattle.cli.proofs.ReplyLemmas.{reply_beside}
 use Rattle.cli.specs.Batch.{with_id}
 use Rattle.cli.specs.Members.{AreOfPlan}
-use Rattle.documents.specs.Document.{IsLineOf, object_with}
+use Rattle.json_answers.specs.Document.{IsLineOf, object_with}
 use Rattle.outcomes.specs.Answer.{verdict_line}
 use Rattle.serde_json.specs.View.{members_view, view}
 use Rattle.cli.proofs.reply.reply_of_judged.Goals as goal

@@ -5,7 +5,7 @@ use Rattle.cli.proofs.ReplyLemmas.{reply_beside}
 use Rattle.cli.specs.Batch.{with_id}
 use Rattle.cli.specs.Members.{AreAddedIn, AreOfKept, with_left}
 use Rattle.command_line.specs.declared.call.Format.TheVariants as format
-use Rattle.documents.specs.Document.{IsLineOf, object_with}
+use Rattle.json_answers.specs.Document.{IsLineOf, object_with}
 use Rattle.outcomes.specs.Answer.{solved_text}
 use Rattle.serde_json.specs.View.{members_view, view}
 use Rattle.cli.proofs.reply.reply_of_kept.Goals as goal

@@ -13,11 +13,11 @@ pub returns : goal.returns
 returns c = λ texts read.
     let id = view c.args.id in
     let names = map (λ name. name.now) c.args.names.now in
-    let found = c.as_slice.result.now in
-    if_ok c.reply_of_names.result (λ reply. IsReplyOf id (candidate_lines names found) (AreOfCandidates names found) reply.items)
+    let candidates = c.as_slice.result.now in
+    if_ok c.reply_of_names.result (λ reply. IsReplyOf id (candidate_lines names candidates) (AreOfCandidates names candidates) reply.items)
     (λ reply. IsReplyWhere {A = List (Option Offer)} id (IsSaidOfNames texts names) (candidate_lines names) (AreOfCandidates names) reply.items)
     (λ reply is. (
-      Ok found,
+      Ok candidates,
       subst (λ (candidates : List (Option Offer)). IsSaidOfNames texts names (Ok candidates)) (sym c.as_slice.ensures) (c.in_ok-candidates.ensures.said texts read),
       is,
     )) c.reply_of_names.ensures

@@ -11,7 +11,7 @@ returns-clause-printed g c at known =
     let written = c.args.arguments.now.format in
     let members = members_view c.in_ok-members.members.map.entries in
     if_ok c.outcome_in.result (IsOutcomeIn written members c.in_ok-plain.plain) (IsOutcomeOfRequest texts c.args.limit c.args.names_pairs written)
-    (λ found is. (
+    (λ outcome is. (
       c.ask_files-answer.result,
       c.in_ok-plain.plain,
       members,

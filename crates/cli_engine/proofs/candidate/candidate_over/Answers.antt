@@ -12,20 +12,20 @@ pub returns-in-None : goal.returns-in-None
 returns-in-None c request =
     let before = c.args.before.now in
     let same : map (λ r. r.now) c.as_slice.result.now ≡ entries_of before.status_file.now.slots = rw c.as_slice.ensures.value c.in_ok-records.ensures.records in
-    let found : IsCandidateOf (inputs_of (start_of before) (indices_of before.indices.now) before.prefs.now request) c.args.name.now
+    let is_candidate : IsCandidateOf (inputs_of (start_of before) (indices_of before.indices.now) before.prefs.now request) c.args.name.now
     c.in_ok-candidate.field-0 =
     subst (λ es. IsCandidateOf (inputs_of (records_of es) (indices_of before.indices.now) before.prefs.now request) c.args.name.now
     c.in_ok-candidate.field-0) same (c.in_ok-candidate.ensures request) in
     subst (λ (offer : Option Offer). IsCandidateOf (inputs_of (start_of before) (indices_of before.indices.now) before.prefs.now request)
-    c.args.name.now offer) c.in-None.is found
+    c.args.name.now offer) c.in-None.is is_candidate
 
 pub returns : goal.returns
 returns c request =
     let before = c.args.before.now in
     let same : map (λ r. r.now) c.as_slice.result.now ≡ entries_of before.status_file.now.slots = rw c.as_slice.ensures.value c.in_ok-records.ensures.records in
-    let found : IsCandidateOf (inputs_of (start_of before) (indices_of before.indices.now) before.prefs.now request) c.args.name.now
+    let is_candidate : IsCandidateOf (inputs_of (start_of before) (indices_of before.indices.now) before.prefs.now request) c.args.name.now
     c.in_ok-candidate.field-0 =
     subst (λ es. IsCandidateOf (inputs_of (records_of es) (indices_of before.indices.now) before.prefs.now request) c.args.name.now
     c.in_ok-candidate.field-0) same (c.in_ok-candidate.ensures request) in
     subst (λ (offer : Option Offer). IsCandidateOf (inputs_of (start_of before) (indices_of before.indices.now) before.prefs.now request)
-    c.args.name.now offer) (c.in-Some.is ∙ ap Some (sym c.in_ok-copied_from-in-Some.ensures)) found
+    c.args.name.now offer) (c.in-Some.is ∙ ap Some (sym c.in_ok-copied_from-in-Some.ensures)) is_candidate

@@ -8,7 +8,7 @@ returns c = more (codes "apply") (options ++ request_options ++ option (codes "j
     (more (codes "apply") (options ++ request_options ++ option (codes "journal") ∷ []) (option (codes "output")) _ _ _
     (more (codes "apply") (options ++ request_options) (option (codes "journal")) _ _ _
     (c.in_ok-with_goals.ensures (codes "apply") options (c.in_ok-optioned.ensures (codes "apply")
-    (with_usage _ _ _ _ c.named.ensures c.override_usage-start.ensures)))
+    (with_usage _ _ _ _ c.command_of.ensures c.override_usage-start.ensures)))
     c.option-journal.ensures c.in_ok-with_journal.ensures)
     c.option-output.ensures c.in_ok-with_output.ensures)
     c.plan-judged.ensures c.in_ok-whole.ensures

@@ -5,4 +5,4 @@ use Rattle.command_line.proofs.declare.batch.Goals as goal
 
 pub returns : goal.returns
 returns c = more (codes "batch") options (number (optional (option (codes "limit")))) _ _ _
-    (c.in_ok-optioned.ensures (codes "batch") c.named-start.ensures) c.limit-limit.ensures c.in_ok-whole.ensures
+    (c.in_ok-optioned.ensures (codes "batch") c.command_of-start.ensures) c.limit-limit.ensures c.in_ok-whole.ensures

@@ -7,5 +7,5 @@ pub returns : goal.returns
 returns c = more (codes "check-plan") (options ++ request_options ++ telling_options) (word (codes "plan")) _ _ _
     (c.in_ok-with_telling.ensures (codes "check-plan") (options ++ request_options)
     (c.in_ok-with_goals.ensures (codes "check-plan") options (c.in_ok-optioned.ensures (codes "check-plan")
-    (with_usage _ _ _ _ c.named.ensures c.override_usage-start.ensures))))
+    (with_usage _ _ _ _ c.command_of.ensures c.override_usage-start.ensures))))
     c.plan-judged.ensures c.in_ok-whole.ensures

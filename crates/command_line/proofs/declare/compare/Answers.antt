@@ -7,4 +7,4 @@ pub returns : goal.returns
 returns c = more (codes "compare") (word (codes "version") ∷ word (codes "relation") ∷ []) (word (codes "other")) _ _ _
     (more (codes "compare") (word (codes "version") ∷ []) (word (codes "relation")) _ _ _
     (more (codes "compare") ([]) (word (codes "version")) _ _ _
-    (c.named-start.ensures) c.word-version.ensures c.in_ok-with_version.ensures) c.word-relation.ensures c.in_ok-with_relation.ensures) c.word-other.ensures c.in_ok-whole.ensures
+    (c.command_of-start.ensures) c.word-version.ensures c.in_ok-with_version.ensures) c.word-relation.ensures c.in_ok-with_relation.ensures) c.word-other.ensures c.in_ok-whole.ensures

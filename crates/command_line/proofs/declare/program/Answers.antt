@@ -5,7 +5,7 @@ use Rattle.command_line.proofs.declare.program.Goals as goal
 pub returns : goal.returns
 unfolding debplan_app
 returns c =
-    let start = begun _ _ _ _ _ _ _ c.named.ensures c.version.ensures c.long_version.ensures c.subcommand_required-start.ensures in
+    let start = begun _ _ _ _ _ _ _ c.command_of.ensures c.version.ensures c.long_version.ensures c.subcommand_required-start.ensures in
     let one = also compare_command _ _ _ _ start c.in_ok-compare.ensures c.in_ok-with_compare.ensures in
     let two = also candidate_command _ _ _ _ one c.in_ok-candidate.ensures c.in_ok-with_candidate.ensures in
     let three = also solve_command _ _ _ _ two c.in_ok-solve.ensures c.in_ok-with_solve.ensures in

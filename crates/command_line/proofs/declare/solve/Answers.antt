@@ -10,5 +10,5 @@ returns c =
     (c.in_ok-with_extent.ensures (codes "solve") (options ++ request_options ++ limit ∷ [])
     (more (codes "solve") (options ++ request_options) limit _ _ _
     (c.in_ok-with_goals.ensures (codes "solve") options (c.in_ok-optioned.ensures (codes "solve")
-    (with_usage _ _ _ _ c.named.ensures c.override_usage-start.ensures)))
+    (with_usage _ _ _ _ c.command_of.ensures c.override_usage-start.ensures)))
     c.limit-limit.ensures c.in_ok-with_limit.ensures))

@@ -1,5 +1,5 @@
 use Rattle.std.proofs.Common.{refl, false}
-use Rattle.disk.specs.declared.changes.Call.TheVariants.{Syncing}
+use Rattle.disk.specs.declared.changes.DiskCall.TheVariants.{Syncing}
 use Rattle.disk.specs.declared.changes.Made.{Made}
 use Rattle.disk.proofs.KeptCalls.{sync_done, sync_moves}
 use Rattle.disk.proofs.changes.note_sync.Goals as goal

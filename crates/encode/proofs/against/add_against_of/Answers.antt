@@ -12,11 +12,11 @@ use Rattle.encode.proofs.against.add_against_of.Goals as goal
 
 pub returns : goal.returns
 returns c =
-    let By : Against → Premise → Type 0 = λ why found. IsPremise c.args.facts.now found × IsAgainstBy why c.args.number found in
+    let By : Against → Premise → Type 0 = λ why reason. IsPremise c.args.facts.now reason × IsAgainstBy why c.args.number reason in
     in_words c.args.facts.now c.args.encoding.now c.add_against-3.new.encoding
-    (λ found. (By against.Same found ⊎ By against.Conflicts found) ⊎ By against.Breaks found)
-    (λ found. IsPremise c.args.facts.now found × IsAgainstOf c.args.number found) (three_kinds c.args.facts.now c.args.number)
+    (λ reason. (By against.Same reason ⊎ By against.Conflicts reason) ⊎ By against.Breaks reason)
+    (λ reason. IsPremise c.args.facts.now reason × IsAgainstOf c.args.number reason) (three_kinds c.args.facts.now c.args.number)
     (and_then c.args.facts.now c.args.encoding.now c.add_against-2.new.encoding c.add_against-3.new.encoding
-    (λ found. By against.Same found ⊎ By against.Conflicts found) (By against.Breaks)
+    (λ reason. By against.Same reason ⊎ By against.Conflicts reason) (By against.Breaks)
     (and_then c.args.facts.now c.args.encoding.now c.add_against.new.encoding c.add_against-2.new.encoding (By against.Same) (By against.Conflicts)
     c.in_ok-add_against.ensures c.in_ok-add_against-2.ensures) c.in_ok-add_against-3.ensures)

@@ -5,4 +5,4 @@ use Rattle.encode.specs.Growing.{Grows, IsAgainstOf, IsOfFirst}
 use Rattle.encode.proofs.against.add_all_against.Given as goal
 
 abbrev pub invariant-loop-place : goal.invariant-loop-place
-invariant-loop-place l = Grows l.facts l.fn.encoding l.encoding (IsOfFirst (λ place found. IsPremise l.facts found × IsAgainstOf (place + 1) found) l.place)
+invariant-loop-place l = Grows l.facts l.fn.encoding l.encoding (IsOfFirst (λ place reason. IsPremise l.facts reason × IsAgainstOf (place + 1) reason) l.place)

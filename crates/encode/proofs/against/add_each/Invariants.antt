@@ -6,4 +6,4 @@ use Rattle.encode.specs.Growing.{Grows}
 use Rattle.encode.proofs.against.add_each.Given as goal
 
 abbrev pub invariant-loop-other : goal.invariant-loop-other
-invariant-loop-other l = Grows l.facts l.fn.encoding l.encoding (λ found. Any (λ other. found ≡ premise_against l.against l.number other) (take l.other-index l.others))
+invariant-loop-other l = Grows l.facts l.fn.encoding l.encoding (λ reason. Any (λ other. reason ≡ premise_against l.against l.number other) (take l.other-index l.others))

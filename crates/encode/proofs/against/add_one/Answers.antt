@@ -12,5 +12,5 @@ add-requires c = either_list c.args.facts.now c.args.against c.args.number c.arg
 
 pub returns : goal.returns
 returns c =
-    let Of : Premise → Type 0 = λ made. Grows c.args.facts.now c.args.encoding.now c.add.new.self (λ found. found ≡ made) in
+    let Of : Premise → Type 0 = λ made. Grows c.args.facts.now c.args.encoding.now c.add.new.self (λ reason. reason ≡ made) in
     subst Of c.basis_of-basis.ensures c.in_ok-add.ensures

@@ -8,6 +8,6 @@ use Rattle.encode.proofs.GrowLemmas.{in_words}
 use Rattle.encode.proofs.goals.add_asked.Goals as goal
 
 pub returns : goal.returns
-returns c = in_words c.args.facts.now c.args.encoding.now c.add.new.self (λ found. found ≡ premise.Goal c.args.number)
-    (λ found. IsPremise c.args.facts.now found × IsOfGoal c.args.number found) (asked_only c.args.facts.now c.args.number c.requires.asks)
+returns c = in_words c.args.facts.now c.args.encoding.now c.add.new.self (λ reason. reason ≡ premise.Goal c.args.number)
+    (λ reason. IsPremise c.args.facts.now reason × IsOfGoal c.args.number reason) (asked_only c.args.facts.now c.args.number c.requires.asks)
     c.in_ok-add.ensures

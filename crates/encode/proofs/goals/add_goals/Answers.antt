@@ -13,7 +13,7 @@ use Rattle.encode.proofs.PairLemmas.{at_place}
 use Rattle.encode.proofs.goals.add_goals.Goals as goal
 
 pub loop-place-init : goal.loop-place-init
-loop-place-init c = by_first_none c.args.facts.now c.args.encoding.now (λ place found. IsPremise c.args.facts.now found × IsOfGoal (place + 1) found)
+loop-place-init c = by_first_none c.args.facts.now c.args.encoding.now (λ place reason. IsPremise c.args.facts.now reason × IsOfGoal (place + 1) reason)
 
 pub add_goal-requires : goal.add_goal-requires
 add_goal-requires c =
@@ -24,17 +24,17 @@ add_goal-requires c =
 
 pub loop-place-preserved : goal.loop-place-preserved
 loop-place-preserved c =
-    let Of : ℕ → Type 0 = λ n. Grows c.args.facts.now c.loop-place.encoding c.add_goal.new.encoding (λ found. IsPremise c.args.facts.now found × IsOfGoal n found) in
+    let Of : ℕ → Type 0 = λ n. Grows c.args.facts.now c.loop-place.encoding c.add_goal.new.encoding (λ reason. IsPremise c.args.facts.now reason × IsOfGoal n reason) in
     one_kind_more c.args.facts.now c.args.encoding.now c.loop-place.encoding c.add_goal.new.encoding
-    (λ place found. IsPremise c.args.facts.now found × IsOfGoal (place + 1) found) c.loop-place.place c.loop-place.invariant
+    (λ place reason. IsPremise c.args.facts.now reason × IsOfGoal (place + 1) reason) c.loop-place.place c.loop-place.invariant
     (subst Of c.in_ok-number.ensures c.in_ok-add_goal.ensures)
 
 pub returns : goal.returns
 returns c =
-    let Kind : ℕ → Premise → Type 0 = λ place found. IsPremise c.args.facts.now found × IsOfGoal (place + 1) found in
+    let Kind : ℕ → Premise → Type 0 = λ place reason. IsPremise c.args.facts.now reason × IsOfGoal (place + 1) reason in
     let Over : ℕ → Type 0 = λ count. Grows c.args.facts.now c.args.encoding.now c.loop-place.encoding (IsOfFirst Kind count) in
     in_words c.args.facts.now c.args.encoding.now c.loop-place.encoding (IsOfFirst Kind (length c.args.facts.now.goals))
-    (λ found. IsPremise c.args.facts.now found × IsGoalAsked found) (all_goals c.args.facts.now)
+    (λ reason. IsPremise c.args.facts.now reason × IsGoalAsked reason) (all_goals c.args.facts.now)
     (let end : c.loop-place.place ≡ length c.goals-goals.result.now = omega arith in
     let same : c.goals-goals.result.now ≡ c.args.facts.now.goals = c.goals-goals.ensures ∙ ap (λ (u : Universe). u.goals) c.part.ensures in
     let count : c.loop-place.place ≡ length c.args.facts.now.goals = end ∙ ap length same in subst Over count c.loop-place.invariant)

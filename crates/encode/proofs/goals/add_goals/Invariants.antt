@@ -5,4 +5,4 @@ use Rattle.encode.specs.Growing.{Grows, IsOfFirst, IsOfGoal}
 use Rattle.encode.proofs.goals.add_goals.Given as goal
 
 abbrev pub invariant-loop-place : goal.invariant-loop-place
-invariant-loop-place l = Grows l.facts l.fn.encoding l.encoding (IsOfFirst (λ place found. IsPremise l.facts found × IsOfGoal (place + 1) found) l.place)
+invariant-loop-place l = Grows l.facts l.fn.encoding l.encoding (IsOfFirst (λ place reason. IsPremise l.facts reason × IsOfGoal (place + 1) reason) l.place)

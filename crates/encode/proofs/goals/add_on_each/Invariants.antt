@@ -6,4 +6,4 @@ use Rattle.encode.specs.Growing.{Grows}
 use Rattle.encode.proofs.goals.add_on_each.Given as goal
 
 abbrev pub invariant-loop-pair : goal.invariant-loop-pair
-invariant-loop-pair l = Grows l.facts l.fn.encoding l.encoding (λ found. Any (λ pair. found ≡ premise.GoalOn l.number pair) (take l.pair-index l.pairs))
+invariant-loop-pair l = Grows l.facts l.fn.encoding l.encoding (λ item. Any (λ pair. item ≡ premise.GoalOn l.number pair) (take l.pair-index l.pairs))

@@ -11,6 +11,6 @@ add_on_each-requires c = removal_says c.args.facts.now c.args.number c.args.name
 
 pub returns : goal.returns
 returns c = in_words c.args.facts.now c.args.encoding.now c.add_on_each.new.encoding (IsOnEach c.args.number c.as_slice.result.now)
-    (λ found. IsPremise c.args.facts.now found × IsOfGoal c.args.number found)
+    (λ reason. IsPremise c.args.facts.now reason × IsOfGoal c.args.number reason)
     (removal_premises c.args.facts.now c.args.number c.args.name.now c.requires c.in_ok-pairs.pairs.items c.as_slice.result.now c.as_slice.ensures.value c.in_ok-pairs.ensures)
     c.in_ok-add_on_each.ensures

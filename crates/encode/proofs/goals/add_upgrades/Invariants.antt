@@ -7,4 +7,4 @@ use Rattle.encode.proofs.goals.add_upgrades.Given as goal
 
 abbrev pub invariant-loop-start : goal.invariant-loop-start
 invariant-loop-start l = Grows l.facts l.fn.encoding l.encoding
-    (λ found. Any (λ start. IsUpgradeBy l.facts l.number start found) (take l.start-index l.starts))
+    (λ reason. Any (λ start. IsUpgradeBy l.facts l.number start reason) (take l.start-index l.starts))

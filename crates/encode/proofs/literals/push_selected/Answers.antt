@@ -17,6 +17,6 @@ loop-number-preserved c = one_selected_more c.args.numbers.now c.loop-number.num
 
 pub returns : goal.returns
 returns c =
-    let Over : List ℕ → Type 0 = λ numbers. (found : Literal) → Contains c.loop-number.literals.items found
-    ↔ (Contains c.args.literals.now.items found ⊎ SelectsOneOf numbers found) in
+    let Over : List ℕ → Type 0 = λ numbers. (item : Literal) → Contains c.loop-number.literals.items item
+    ↔ (Contains c.args.literals.now.items item ⊎ SelectsOneOf numbers item) in
     subst Over (take_all c.loop-number.number-index c.args.numbers.now c.loop-number-test.false) c.loop-number.invariant

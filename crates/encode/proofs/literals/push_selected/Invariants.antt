@@ -7,5 +7,5 @@ use Rattle.encode.specs.Numbers.{SelectsOneOf}
 use Rattle.encode.proofs.literals.push_selected.Given as goal
 
 abbrev pub invariant-loop-number : goal.invariant-loop-number
-invariant-loop-number l = (found : Literal) → Contains l.literals.items found ↔ (Contains l.fn.literals.items found
-    ⊎ SelectsOneOf (take l.number-index l.numbers) found)
+invariant-loop-number l = (item : Literal) → Contains l.literals.items item ↔ (Contains l.fn.literals.items item
+    ⊎ SelectsOneOf (take l.number-index l.numbers) item)

@@ -12,11 +12,11 @@ use Rattle.encode.proofs.NumberLemmas.{there_at}
 use Rattle.encode.proofs.needs.add_depends.Goals as goal
 
 pub loop-place-init : goal.loop-place-init
-loop-place-init c = by_first_none c.args.facts.now c.args.encoding.now (λ place found. found ≡ premise.Depends c.args.number (place + 1))
+loop-place-init c = by_first_none c.args.facts.now c.args.encoding.now (λ place reason. reason ≡ premise.Depends c.args.number (place + 1))
 
 pub loop-place-preserved : goal.loop-place-preserved
 loop-place-preserved c = one_kind_more c.args.facts.now c.args.encoding.now c.loop-place.encoding c.add_depends_at.new.encoding
-    (λ place found. found ≡ premise.Depends c.args.number (place + 1)) c.loop-place.place c.loop-place.invariant c.in_ok-add_depends_at.ensures
+    (λ place reason. reason ≡ premise.Depends c.args.number (place + 1)) c.loop-place.place c.loop-place.invariant c.in_ok-add_depends_at.ensures
 
 pub add_depends_at-requires-clause-clause : goal.add_depends_at-requires-clause-clause
 add_depends_at-requires-clause-clause c =
@@ -25,10 +25,10 @@ add_depends_at-requires-clause-clause c =
 
 pub returns : goal.returns
 returns c =
-    let Kind : ℕ → Premise → Type 0 = λ place found. found ≡ premise.Depends c.args.number (place + 1) in
+    let Kind : ℕ → Premise → Type 0 = λ place reason. reason ≡ premise.Depends c.args.number (place + 1) in
     let Over : ℕ → Type 0 = λ count. Grows c.args.facts.now c.args.encoding.now c.loop-place.encoding (IsOfFirst Kind count) in
     in_words c.args.facts.now c.args.encoding.now c.loop-place.encoding (IsOfFirst Kind (length c.args.pkg.now.relations.depends))
-    (λ found. IsPremise c.args.facts.now found × IsDependsOf c.args.number found)
+    (λ reason. IsPremise c.args.facts.now reason × IsDependsOf c.args.number reason)
     (all_needs c.args.facts.now (λ pkg. pkg.relations.depends) (premise.Depends c.args.number) c.args.number c.args.pkg.now c.requires
     (λ clause. (λ so. so, λ so. so)))
     (let end : c.loop-place.place ≡ length c.depends-clause-items.result.now = omega arith in

@@ -8,17 +8,17 @@ use Rattle.encode.proofs.NeedLemmas.{all_pairs_need}
 use Rattle.encode.proofs.needs.add_needs.Goals as goal
 
 pub loop-place-init : goal.loop-place-init
-loop-place-init c = by_first_none c.args.facts.now c.args.encoding.now (λ place found. IsPremise c.args.facts.now found × IsNeedOf (place + 1) found)
+loop-place-init c = by_first_none c.args.facts.now c.args.encoding.now (λ place reason. IsPremise c.args.facts.now reason × IsNeedOf (place + 1) reason)
 
 pub loop-place-preserved : goal.loop-place-preserved
 loop-place-preserved c = one_kind_more c.args.facts.now c.args.encoding.now c.loop-place.encoding c.add_needs_at.new.encoding
-    (λ place found. IsPremise c.args.facts.now found × IsNeedOf (place + 1) found) c.loop-place.place c.loop-place.invariant c.in_ok-add_needs_at.ensures
+    (λ place reason. IsPremise c.args.facts.now reason × IsNeedOf (place + 1) reason) c.loop-place.place c.loop-place.invariant c.in_ok-add_needs_at.ensures
 
 pub returns : goal.returns
 returns c =
-    let Kind : ℕ → Premise → Type 0 = λ place found. IsPremise c.args.facts.now found × IsNeedOf (place + 1) found in
+    let Kind : ℕ → Premise → Type 0 = λ place reason. IsPremise c.args.facts.now reason × IsNeedOf (place + 1) reason in
     let Over : ℕ → Type 0 = λ count. Grows c.args.facts.now c.args.encoding.now c.loop-place.encoding (IsOfFirst Kind count) in
     in_words c.args.facts.now c.args.encoding.now c.loop-place.encoding (IsOfFirst Kind (length c.args.facts.now.pairs))
-    (λ found. IsPremise c.args.facts.now found × IsNeed found) (all_pairs_need c.args.facts.now)
+    (λ reason. IsPremise c.args.facts.now reason × IsNeed reason) (all_pairs_need c.args.facts.now)
     (let count : c.loop-place.place ≡ length c.args.facts.now.pairs = omega (arith, c.count-place-end.ensures) in
     subst Over count c.loop-place.invariant)

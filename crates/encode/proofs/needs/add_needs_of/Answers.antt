@@ -10,12 +10,12 @@ use Rattle.encode.proofs.needs.add_needs_of.Goals as goal
 
 pub returns : goal.returns
 returns c =
-    let Before : Premise → Type 0 = λ found. IsPremise c.args.facts.now found × IsPreDependsOf c.args.number found in
-    let Then : Premise → Type 0 = λ found. IsPremise c.args.facts.now found × IsDependsOf c.args.number found in
-    let Both : Premise → Type 0 = λ found. IsPremise c.args.facts.now found × IsNeedOf c.args.number found in
+    let Before : Premise → Type 0 = λ reason. IsPremise c.args.facts.now reason × IsPreDependsOf c.args.number reason in
+    let Then : Premise → Type 0 = λ reason. IsPremise c.args.facts.now reason × IsDependsOf c.args.number reason in
+    let Both : Premise → Type 0 = λ reason. IsPremise c.args.facts.now reason × IsNeedOf c.args.number reason in
     let End : Encoding → Type 0 = λ encoding. Grows c.args.facts.now c.args.encoding.now encoding Both in
     subst End (sym c.end_needs.ensures)
-    (in_words c.args.facts.now c.args.encoding.now c.add_depends.new.encoding (λ found. Before found ⊎ Then found) Both
+    (in_words c.args.facts.now c.args.encoding.now c.add_depends.new.encoding (λ reason. Before reason ⊎ Then reason) Both
     (both_fields c.args.facts.now c.args.number)
     (and_then c.args.facts.now c.args.encoding.now c.add_pre_depends.new.encoding c.add_depends.new.encoding Before Then
     c.in_ok-add_pre_depends.ensures c.in_ok-add_depends.ensures))

@@ -5,4 +5,4 @@ use Rattle.encode.specs.Growing.{Grows, IsOfFirst}
 use Rattle.encode.proofs.needs.add_pre_depends.Given as goal
 
 abbrev pub invariant-loop-place : goal.invariant-loop-place
-invariant-loop-place l = Grows l.facts l.fn.encoding l.encoding (IsOfFirst (λ place found. found ≡ premise.PreDepends l.number (place + 1)) l.place)
+invariant-loop-place l = Grows l.facts l.fn.encoding l.encoding (IsOfFirst (λ place reason. reason ≡ premise.PreDepends l.number (place + 1)) l.place)

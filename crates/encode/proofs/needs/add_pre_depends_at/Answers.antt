@@ -21,5 +21,5 @@ add-requires c =
 
 pub returns : goal.returns
 returns c =
-    let Of : ℕ → Type 0 = λ n. Grows c.args.facts.now c.args.encoding.now c.add.new.self (λ found. found ≡ premise.PreDepends c.args.number n) in
+    let Of : ℕ → Type 0 = λ n. Grows c.args.facts.now c.args.encoding.now c.add.new.self (λ reason. reason ≡ premise.PreDepends c.args.number n) in
     subst Of c.in_ok-clause_number.ensures c.in_ok-add.ensures

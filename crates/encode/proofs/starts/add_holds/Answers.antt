@@ -12,15 +12,15 @@ use Rattle.encode.proofs.GrowLemmas.{by_none_taken, in_words, one_item_more}
 use Rattle.encode.proofs.starts.add_holds.Goals as goal
 
 pub loop-pair-init : goal.loop-pair-init
-loop-pair-init c = by_none_taken c.args.facts.now c.args.encoding.now (λ (pair : ℕ) found. found ≡ premise.Hold pair) c.args.pairs.now
+loop-pair-init c = by_none_taken c.args.facts.now c.args.encoding.now (λ (pair : ℕ) reason. reason ≡ premise.Hold pair) c.args.pairs.now
 
 pub loop-pair-preserved : goal.loop-pair-preserved
-loop-pair-preserved c = one_item_more c.args.facts.now c.args.encoding.now c.loop-pair.encoding c.add.new.self (λ (pair : ℕ) found. found ≡ premise.Hold pair)
+loop-pair-preserved c = one_item_more c.args.facts.now c.args.encoding.now c.loop-pair.encoding c.add.new.self (λ (pair : ℕ) reason. reason ≡ premise.Hold pair)
     c.args.pairs.now c.loop-pair.pair-index 0 c.loop-pair-test.true c.loop-pair.invariant c.in_ok-add.ensures
 
 pub returns : goal.returns
 returns c =
-    let Kind : List ℕ → Premise → Type 0 = λ xs found. Any (λ pair. found ≡ premise.Hold pair) xs in
+    let Kind : List ℕ → Premise → Type 0 = λ xs reason. Any (λ pair. reason ≡ premise.Hold pair) xs in
     let Over : List ℕ → Type 0 = λ xs. Grows c.args.facts.now c.args.encoding.now c.loop-pair.encoding (Kind xs) in
     in_words c.args.facts.now c.args.encoding.now c.loop-pair.encoding (Kind c.args.pairs.now) (IsHoldEach c.args.pairs.now) (hold_each c.args.pairs.now)
     (subst Over (take_all c.loop-pair.pair-index c.args.pairs.now c.loop-pair-test.false) c.loop-pair.invariant)

@@ -6,4 +6,4 @@ use Rattle.encode.specs.Growing.{Grows}
 use Rattle.encode.proofs.starts.add_holds.Given as goal
 
 abbrev pub invariant-loop-pair : goal.invariant-loop-pair
-invariant-loop-pair l = Grows l.facts l.fn.encoding l.encoding (λ found. Any (λ pair. found ≡ premise.Hold pair) (take l.pair-index l.pairs))
+invariant-loop-pair l = Grows l.facts l.fn.encoding l.encoding (λ reason. Any (λ pair. reason ≡ premise.Hold pair) (take l.pair-index l.pairs))

@@ -3,16 +3,16 @@ use Rattle.std.proofs.Common.{length}
 use Rattle.plain.specs.Change.{HasNothingToRemove}
 use Rattle.plain.specs.Order.{AreNextSteps, IsNextConfigure}
 use Rattle.plain.specs.Underway.{unconfigured_of}
-use Rattle.fixed_order.specs.Ground.{IsUnderwayOn, members_in}
+use Rattle.fixed_order.specs.Problem.{IsUnderwayOn, members_in}
 use Rattle.fixed_order.specs.Waiting.{IsWaitingIn}
 use Rattle.fixed_order.proofs.configure.configures_of.Given as goal
 
 abbrev pub invariant-loop-steps : goal.invariant-loop-steps
 invariant-loop-steps l = record {
   waiting : IsWaitingIn l.db l.waiting;
-  underway : IsUnderwayOn l.ground l.db;
-  nothing : HasNothingToRemove (members_in l.ground) l.db;
-  so_far : AreNextSteps (IsNextConfigure l.ground.universe.now) l.ground.universe.now l.initial.db l.steps.items l.db;
+  underway : IsUnderwayOn l.problem l.db;
+  nothing : HasNothingToRemove (members_in l.problem) l.db;
+  so_far : AreNextSteps (IsNextConfigure l.problem.universe.now) l.problem.universe.now l.initial.db l.steps.items l.db;
 }
 
 abbrev pub decreases-loop-steps : goal.decreases-loop-steps

@@ -10,6 +10,6 @@ returns-then-not-has-clause-walked c = λ left walked. walk_passes c.args.db.now
     (subst (λ (names : List (List ℕ)). Contains names c.name.result.now) (sym c.as_slice.ensures.value)
     (subst (Contains c.args.walk.now.group.items) (sym c.name.ensures) within))) ∙ c.if-not-has.true in cc))
 
-pub look_at-requires-clause-within : goal.look_at-requires-clause-within
-look_at-requires-clause-within c = subst (Contains c.args.walk.now.group.items) c.name.ensures
+pub keep_or_leave-requires-clause-within : goal.keep_or_leave-requires-clause-within
+keep_or_leave-requires-clause-within c = subst (Contains c.args.walk.now.group.items) c.name.ensures
     (subst (λ (names : List (List ℕ)). Contains names c.name.result.now) c.as_slice.ensures.value (c.has.ensures.0 c.if-not-has.false))

@@ -2,16 +2,16 @@
 use Rattle.plain.specs.Change.{IsToRemove}
 use Rattle.plain.specs.Order.{AreNextSteps, IsNextRemoval}
 use Rattle.plain.specs.Underway.{removals_left}
-use Rattle.fixed_order.specs.Ground.{IsUnderwayOn, members_in}
+use Rattle.fixed_order.specs.Problem.{IsUnderwayOn, members_in}
 use Rattle.fixed_order.specs.Names.{AreAllWith}
 use Rattle.fixed_order.proofs.removal.removals.Given as goal
 
 abbrev pub invariant-loop-steps : goal.invariant-loop-steps
 invariant-loop-steps l = record {
-  underway : IsUnderwayOn l.ground l.db;
-  so_far : AreNextSteps (IsNextRemoval l.ground.universe.now (members_in l.ground)) l.ground.universe.now l.initial.db l.steps.items l.db;
-  keys : AreAllWith (IsToRemove (members_in l.ground) l.db) l.keys.items;
+  underway : IsUnderwayOn l.problem l.db;
+  so_far : AreNextSteps (IsNextRemoval l.problem.universe.now (members_in l.problem)) l.problem.universe.now l.initial.db l.steps.items l.db;
+  keys : AreAllWith (IsToRemove (members_in l.problem) l.db) l.keys.items;
 }
 
 abbrev pub decreases-loop-steps : goal.decreases-loop-steps
-decreases-loop-steps l = removals_left (members_in l.ground) l.db
+decreases-loop-steps l = removals_left (members_in l.problem) l.db

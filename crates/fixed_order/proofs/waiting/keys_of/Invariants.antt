@@ -3,5 +3,5 @@ use Rattle.std.proofs.Common.{◌≡◌, ◌++◌, drop}
 use Rattle.plain.specs.Underway.{unconfigured_of}
 use Rattle.fixed_order.proofs.waiting.keys_of.Given as goal
 
-abbrev pub invariant-loop-found : goal.invariant-loop-found
-invariant-loop-found l = l.keys.items ++ unconfigured_of (drop l.found-index l.db) ≡ unconfigured_of l.db
+abbrev pub invariant-loop-entry : goal.invariant-loop-entry
+invariant-loop-entry l = l.keys.items ++ unconfigured_of (drop l.entry-index l.db) ≡ unconfigured_of l.db

@@ -2,17 +2,17 @@
 use Rattle.std.proofs.Common.{◌≡◌, refl, subst}
 use Rattle.rules.specs.Legal.{Allowed}
 use Rattle.rules.specs.declared.step.Step.TheVariants.{Purge}
-use Rattle.forward_steps.specs.Door.{CannotPurge, selected_in}
+use Rattle.forward_steps.specs.PartialPlan.{CannotPurge, selected_in}
 use Rattle.forward_steps.proofs.MoveLemmas.{moves_by}
 use Rattle.forward_steps.proofs.forward.purge.Goals as goal
 
 pub returns-in_ok-moved-in-Purge-clause-moves : goal.returns-in_ok-moved-in-Purge-clause-moves
 unfolding CannotPurge
-returns-in_ok-moved-in-Purge-clause-moves c = moves_by (selected_in c.args.ground.now) c.args.door.now.db c.take_forward.new.door.db
+returns-in_ok-moved-in-Purge-clause-moves c = moves_by (selected_in c.args.problem.now) c.args.plan.now.db c.take_forward.new.plan.db
     c.in_ok-moved-in-Purge.moved
-    (¬ Allowed c.args.ground.now.universe.now c.args.door.now.db (Purge c.in_ok-try_copy-in-Purge.field-0))
-    (CannotPurge c.args.ground.now.universe.now c.args.door.now.db c.args.asked.now)
-    (λ cannot name is. subst (λ n. ¬ Allowed c.args.ground.now.universe.now c.args.door.now.db (Purge n))
+    (¬ Allowed c.args.problem.now.universe.now c.args.plan.now.db (Purge c.in_ok-try_copy-in-Purge.field-0))
+    (CannotPurge c.args.problem.now.universe.now c.args.plan.now.db c.args.asked.now)
+    (λ cannot name is. subst (λ n. ¬ Allowed c.args.problem.now.universe.now c.args.plan.now.db (Purge n))
     (let e : c.in_ok-try_copy-in-Purge.field-0 ≡ name = cc (c.in_ok-try_copy-in-Purge.ensures, c.in-Purge.is, is) in e) cannot)
     c.in_ok-moved-in-Purge.ensures.moves
 

@@ -5,6 +5,6 @@ use Rattle.rules.specs.Database.{Record}
 use Rattle.forward_steps.specs.Selection.{is_waiting}
 use Rattle.forward_steps.proofs.pending.waiting.Given as goal
 
-abbrev pub invariant-loop-found : goal.invariant-loop-found
-invariant-loop-found l = l.names.items ++ map (λ (found : Record). found.name) (filter (is_waiting l.members) (drop l.found-index l.db))
-    ≡ map (λ (found : Record). found.name) (filter (is_waiting l.members) l.db)
+abbrev pub invariant-loop-entry : goal.invariant-loop-entry
+invariant-loop-entry l = l.names.items ++ map (λ (entry : Record). entry.name) (filter (is_waiting l.members) (drop l.entry-index l.db))
+    ≡ map (λ (entry : Record). entry.name) (filter (is_waiting l.members) l.db)

@@ -6,4 +6,4 @@ use Rattle.index.proofs.names.distinct_names.Given as goal
 -- the names so far, and those of the packages that are left, are the names of all
 abbrev pub invariant-loop-entry : goal.invariant-loop-entry
 invariant-loop-entry l = names_of l.entries
-    ≡ fold with_name (map (λ (name : Bor (List ℕ)). name.now) l.names.keys) (map (λ (found : IndexPackage). found.pkg.name) (drop l.entry-index l.entries))
+    ≡ fold with_name (map (λ (name : Bor (List ℕ)). name.now) l.names.keys) (map (λ (item : IndexPackage). item.pkg.name) (drop l.entry-index l.entries))

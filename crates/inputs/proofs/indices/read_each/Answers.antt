@@ -17,10 +17,10 @@ loop-source-preserved g c =
     let short = ap length steps in
     let was = w.invariant.left in
     let count = w.invariant.count in
-    let fits : (at : Shelved) → g.S.Shelf.found c.args.shelf.now ≡ Some at → w.before + length c.in-Ok.index.listed ≤ PACKAGES =
+    let fits : (at : Shelved) → g.S.Shelf.known_texts c.args.shelf.now ≡ Some at → w.before + length c.in-Ok.index.listed ≤ PACKAGES =
     λ at known. index_fits c.args.arch.now at.index (w.number + 1) w.before c.in-Some.source c.in-Ok.index
     (c.in-Ok.ensures.ok at (w.invariant.read.same ∙ known)) (w.invariant.bounded at known) in
-    let exact : (at : Shelved) → g.S.Shelf.found c.args.shelf.now ≡ Some at
+    let exact : (at : Shelved) → g.S.Shelf.known_texts c.args.shelf.now ≡ Some at
     → c.saturating_add-before.result ≡ w.before + length c.in-Ok.index.listed =
     λ at known. c.saturating_add-before.ensures ∙ ap (λ n. min (w.before + n) (2 ^ 64 - 1)) c.count.ensures
     ∙ min-eq_left (let within = fits at known in omega (arith, within)) in

@@ -13,8 +13,8 @@ invariant-loop-source g l = record {
   count : l.number + length (into_iter_items l.source-iterator) ≡ length l.fn.sources.items;
   lengths : length l.kept.items ≡ length l.releases.items;
   read : IsReadBy g.S.Shelf l.fn.shelf (Ok l.kept) l.shelf;
-  bounded : (at : Shelved) → g.S.Shelf.found l.fn.shelf ≡ Some at → l.before ≤ PACKAGES;
-  same : (at : Shelved) → g.S.Shelf.found l.fn.shelf ≡ Some at → indices_from l.arch at.index 1 0 l.fn.sources.items
+  bounded : (at : Shelved) → g.S.Shelf.known_texts l.fn.shelf ≡ Some at → l.before ≤ PACKAGES;
+  same : (at : Shelved) → g.S.Shelf.known_texts l.fn.shelf ≡ Some at → indices_from l.arch at.index 1 0 l.fn.sources.items
       ≡ with_indices (released l.releases.items l.kept.items)
       (indices_from l.arch at.index (l.number + 1) l.before (into_iter_items l.source-iterator));
 }

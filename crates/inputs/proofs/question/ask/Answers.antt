@@ -40,10 +40,10 @@ pub returns-clause-said : goal.returns-clause-said
 returns-clause-said g c = λ at known.
     let texts = texts_of c.args.settings.now at in
     let text = c.in_ok-status.ensures.text at known in
-    let found = c.in_ok-text.ensures.read.same ∙ (c.in_ok-status.ensures.read.same ∙ known) in
+    let still_known = c.in_ok-text.ensures.read.same ∙ (c.in_ok-status.ensures.read.same ∙ known) in
     let named = c.in_ok-sources.ensures.ok at c.args.settings.now
     (c.in_ok-text.ensures.text at (c.in_ok-status.ensures.read.same ∙ known) ∙ ap Some (sym c.as_slice.ensures.value)) in
-    c.ask_by.ensures.said at (c.in_ok-kept.ensures.read.same ∙ found)
+    c.ask_by.ensures.said at (c.in_ok-kept.ensures.read.same ∙ still_known)
     (c.in_ok-status_file.ensures.ok texts text)
     (c.in_ok-status_file.ensures.slots texts text)
     (record {
@@ -52,4 +52,4 @@ returns-clause-said g c = λ at known.
       files_are = ap (map (λ file. file.now)) c.as_slice-3.ensures.value ∙ c.in_ok-files.ensures ∙ ap files_of c.as_slice-2.ensures.value;
     })
     (lent_indexed texts c.in_ok-kept.releases.items c.in_ok-kept.kept.items c.as_slice-4.result.now
-    (c.in_ok-kept.ensures.ok at found named) c.as_slice-4.ensures.value)
+    (c.in_ok-kept.ensures.ok at still_known named) c.as_slice-4.ensures.value)

@@ -7,5 +7,5 @@ use Rattle.installable.proofs.named.has_package.Goals as goal
 
 pub returns : goal.returns
 returns c = c.some_has.ensures
-    ∙ sym (list_any-map (λ (index : Index). list_any (λ found. bytes_eq found.pkg.name c.args.name.now) index.listed) (λ read. read.index)
+    ∙ sym (list_any-map (λ (index : Index). list_any (λ stanza. bytes_eq stanza.pkg.name c.args.name.now) index.listed) (λ read. read.index)
     c.args.indices.now)

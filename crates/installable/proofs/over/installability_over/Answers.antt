@@ -6,4 +6,4 @@ pub decide-requires : goal.decide-requires
 decide-requires c = over_is_decidable c.args.before.now c.args.requested.now.universe c.requires
 
 pub returns-clause-said : goal.returns-clause-said
-returns-clause-said c = c.told.ensures.said c.args.question.now.limit c.in_ok-decided.ensures
+returns-clause-said c = c.installability_by.ensures.said c.args.question.now.limit c.in_ok-decided.ensures

@@ -4,7 +4,7 @@ use Rattle.journal.specs.declared.ledger.Ledger.{Ledger}
 use Rattle.journal.specs.Adding.{recorded_of}
 use Rattle.journal.specs.History.{followed}
 use Rattle.journal.specs.Spare.{store_left}
-use Rattle.journal.specs.Payload.{Recorded}
+use Rattle.journal.specs.Payload.{RecordedStep}
 use Rattle.journal.specs.File.{front}
 use Rattle.journal.specs.Ledger.{history_of}
 use Rattle.std.specs.Option.{option_copied}
@@ -35,7 +35,7 @@ returns-in-Ok-clause-settled g c = λ honest settled.
       gate = old.gate + (5 + c.in_ok-prepared.prepared.len);
       broken = old.broken;
     } in
-    let steps : new.steps.items ≡ old.steps.items ++ r ∷ [] = c.in_ok-push.ensures.items ∙ ap (λ (x : Recorded). old.steps.items ++ x ∷ []) p.kept in
+    let steps : new.steps.items ≡ old.steps.items ++ r ∷ [] = c.in_ok-push.ensures.items ∙ ap (λ (x : RecordedStep). old.steps.items ++ x ∷ []) p.kept in
     let left : new.database ≡ store_left old.database r = c.exchange.ensures ∙ p.left in
     let history : history_of new ≡ followed (history_of old) r = λ i. record {
       arch = ap (λ (db : Store). db.arch) left i;

@@ -3,14 +3,14 @@ use Rattle.journal.specs.Adding.{recorded_of}
 use Rattle.journal.specs.Calls.{IsRun, ShowsFrom, acknowledged, adds, begins}
 use Rattle.journal.specs.History.{History, Shows}
 use Rattle.journal.specs.Ledger.{history_of}
-use Rattle.journal.specs.Payload.{Recorded}
+use Rattle.journal.specs.Payload.{RecordedStep}
 use Rattle.journal.proofs.caller.take_both.Goals as goal
 
 -- steps that may stand after two were acknowledged
-both : (arch start file : List ℕ) (a b : Recorded) → ShowsFrom arch start (acknowledged a ∷ acknowledged b ∷ []) file
+both : (arch start file : List ℕ) (a b : RecordedStep) → ShowsFrom arch start (acknowledged a ∷ acknowledged b ∷ []) file
     → (h : History) × (h.arch ≡ arch) × (h.start ≡ start) × (h.steps ≡ a ∷ b ∷ []) × Shows file h
 both arch start file a b (h, for_it, start_is, stand, shows) =
-    (h, for_it, start_is, stand.1 ∙ ap (λ (s : List Recorded). a ∷ s) (stand.2.1 ∙ ap (λ (s : List Recorded). b ∷ s) stand.2.2), shows)
+    (h, for_it, start_is, stand.1 ∙ ap (λ (s : List RecordedStep). a ∷ s) (stand.2.1 ∙ ap (λ (s : List RecordedStep). b ∷ s) stand.2.2), shows)
 
 pub returns : goal.returns
 returns g c = λ honest file left.

@@ -1,5 +1,5 @@
 use Rattle.std.proofs.Common.{◌≡◌, ◌∙◌, ◌++◌, List, ℕ, sym, ap}
-use Rattle.journal.specs.declared.header.Version.TheVariants.{One, Two}
+use Rattle.journal.specs.declared.header.FormatVersion.TheVariants.{One, Two}
 use Rattle.journal.specs.File.{magic_of}
 use Rattle.journal.proofs.HeaderLemmas.{header_1, header_2, no_header_1, no_header_2}
 use Rattle.journal.proofs.header.read_header.Goals as goal

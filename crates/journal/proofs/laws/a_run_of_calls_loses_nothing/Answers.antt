@@ -11,8 +11,8 @@ returns-clause-within g c = λ before came handed held disk after run call file 
     let facts = g.D.Disk.facts in
     within before came handed held (facts disk) (facts after) (run_holds facts before came held disk run) call file left
 
-pub returns-clause-found : goal.returns-clause-found
-returns-clause-found g c = λ disk after again file since synced other left.
+pub returns-clause-on_disk : goal.returns-clause-on_disk
+returns-clause-on_disk g c = λ disk after again file since synced other left.
     let facts = g.D.Disk.facts in
     subst (λ (f : List ℕ). (facts after).since (facts disk).moment f) (sym (synced.leaves other left)) since
 

@@ -1,7 +1,7 @@
 use Rattle.std.proofs.Common.{◌≡◌, ◌+◌, ◌∷◌, [], ◌++◌, List, ℕ, ap, refl}
 use Rattle.status_text.specs.Slot.{Store}
 use Rattle.journal.specs.File.{Entry}
-use Rattle.journal.specs.Payload.{Recorded}
+use Rattle.journal.specs.Payload.{RecordedStep}
 use Rattle.journal.specs.Reading.{IsTaken}
 use Rattle.journal.proofs.reading.push_record.Goals as goal
 

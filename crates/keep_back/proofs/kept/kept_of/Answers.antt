@@ -4,7 +4,7 @@ use Rattle.std.proofs.lemmas.Result.{IfErr-weaker, IfOk-weaker}
 use Rattle.keep_back.specs.Further.{IsLeftOutFor}
 use Rattle.keep_back.proofs.KeepLemmas.{AreOfRefuted, is-left, left-refused, of-refuted, refuted-request}
 use Rattle.keep_back.proofs.kept.kept_of.Goals as goal
-use Rattle.wishes.specs.declared.wish.Wish.{Wish}
+use Rattle.request_lines.specs.declared.wish.Wish.{Wish}
 
 pub returns-then-not-branch-clause-solved : goal.returns-then-not-branch-clause-solved
 returns-then-not-branch-clause-solved g c =

@@ -15,6 +15,6 @@ loop-line-preserved c =
     let give : Line → Option NamedLine = line_named c.args.universe.now.pairs in
     let first : drop i lines ≡ item ∷ drop (i + 1) lines =
     drop_more lines i item c.loop-line-test.true ∙ ap (λ (here : Line). here ∷ drop (i + 1) lines) (sym c.line-item.is) in
-    let is : give item ≡ Some c.in-Some.found = sym c.in_ok-found.ensures ∙ c.in-Some.is in
+    let is : give item ≡ Some c.in-Some.answer = sym c.in_ok-answer.ensures ∙ c.in-Some.is in
     rw c.in_ok-push.ensures.items
-    (some_more give c.loop-line.named.items item c.in-Some.found (drop i lines) (drop (i + 1) lines) first is ∙ c.loop-line.invariant)
+    (some_more give c.loop-line.named.items item c.in-Some.answer (drop i lines) (drop (i + 1) lines) first is ∙ c.loop-line.invariant)

@@ -11,9 +11,9 @@ pub returns : goal.returns
 unfolding HasVersion
 returns c =
     let P : Pkg → Type 0 = IsOf c.args.name.now c.args.version.now in
-    let Q : Record → Type 0 = λ found. IsInstalled found × P (pkg_of found) in
+    let Q : Record → Type 0 = λ entry. IsInstalled entry × P (pkg_of entry) in
     let both = holders-any Q c.args.name.now c.args.db.now c.holders.result c.holders.ensures
-    (λ found has. named-holds c.args.name.now found has.1.0) in (
+    (λ entry has. named-holds c.args.name.now entry has.1.0) in (
       λ there. some_installed P c.args.db.now (both.0 (c.some_is_version.ensures.0 there)),
       λ has. c.some_is_version.ensures.1 (both.1 (installed_some P c.args.db.now has)),
     )

@@ -7,9 +7,9 @@ use Rattle.order.proofs.one_each.are_apart.Goals as goal
 pub loop-name-preserved : goal.loop-name-preserved
 loop-name-preserved c =
     let none : Bor (List ℕ) = record { ref_ptr = (0, 0); now = [] } in
-    let found : Bor (List ℕ) = get_or c.args.names.now c.loop-name.name-index none in
-    table_more c.args.names.now c.loop-name.table.keys c.insert.new.self.keys c.loop-name.name-index found _ c.loop-name-test.true
-    (get_or_default c.args.names.now c.loop-name.name-index none found c.loop-name-test.true) c.in_ok-insert.ensures.keys c.loop-name.invariant
+    let name : Bor (List ℕ) = get_or c.args.names.now c.loop-name.name-index none in
+    table_more c.args.names.now c.loop-name.table.keys c.insert.new.self.keys c.loop-name.name-index name _ c.loop-name-test.true
+    (get_or_default c.args.names.now c.loop-name.name-index none name c.loop-name-test.true) c.in_ok-insert.ensures.keys c.loop-name.invariant
 
 pub returns : goal.returns
 returns c = λ is. apart_from_table c.args.names.now c.loop-name.table.keys c.loop-name.name-index c.len.result c.loop-name-test.false

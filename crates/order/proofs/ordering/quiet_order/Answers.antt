@@ -3,7 +3,7 @@ use Rattle.std.proofs.Common.{List, sym, subst, ap, ◌∙◌}
 use Rattle.std.specs.List.{All}
 use Rattle.rules.specs.Package.{Pkg}
 use Rattle.universe_parts.specs.Parts.{packages_of}
-use Rattle.forward_steps.specs.Door.{HasStanza}
+use Rattle.forward_steps.specs.PartialPlan.{HasStanza}
 use Rattle.order.specs.Order.{IsOrder}
 use Rattle.forward_steps.specs.Selection.{IsOneEach, chosen}
 use Rattle.order.proofs.BareLemmas.{order_from_bare}

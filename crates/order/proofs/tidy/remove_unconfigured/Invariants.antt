@@ -1,6 +1,6 @@
 -- The steps so far are a run.
-use Rattle.forward_steps.specs.Door.{IsReached}
+use Rattle.forward_steps.specs.PartialPlan.{IsReached}
 use Rattle.order.proofs.tidy.remove_unconfigured.Given as goal
 
 abbrev pub invariant-loop-name : goal.invariant-loop-name
-invariant-loop-name l = IsReached l.ground l.door
+invariant-loop-name l = IsReached l.problem l.plan

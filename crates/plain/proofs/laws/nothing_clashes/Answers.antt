@@ -1,4 +1,4 @@
-use Rattle.plain.proofs.PeaceLemmas.{nothing_clashes}
+use Rattle.plain.proofs.ClashLemmas.{nothing_clashes}
 use Rattle.plain.proofs.laws.nothing_clashes.Goals as goal
 
 pub returns : goal.returns

@@ -1,4 +1,4 @@
-use Rattle.plain.proofs.PeaceLemmas.{start_is_quiet}
+use Rattle.plain.proofs.ClashLemmas.{start_is_quiet}
 use Rattle.plain.proofs.laws.start_is_quiet.Goals as goal
 
 pub returns : goal.returns

@@ -6,7 +6,7 @@ use Rattle.plainness.proofs.ready.is_staying.Goals as goal
 
 pub returns : goal.returns
 returns c =
-    let both = holders-named (λ (found : Record). IsInstalled found × HasSoundFlag found × SameVersion found.version c.args.version.now)
+    let both = holders-named (λ (entry : Record). IsInstalled entry × HasSoundFlag entry × SameVersion entry.version c.args.version.now)
     c.args.name.now c.args.start.now c.holders.result c.holders.ensures in (
       λ some. both.0 (c.some_is_version.ensures.0 some),
       λ has. c.some_is_version.ensures.1 (both.1 has),

@@ -7,7 +7,7 @@ use Rattle.plancheck.proofs.held.stands_as.Goals as goal
 
 pub returns : goal.returns
 unfolding StandsAs
-returns c = let both = holders-named (λ (found : Record). Stands found × SameVersion found.version c.args.version.now) c.args.name.now c.args.db.now c.holders.result c.holders.ensures in (
+returns c = let both = holders-named (λ (entry : Record). Stands entry × SameVersion entry.version c.args.version.now) c.args.name.now c.args.db.now c.holders.result c.holders.ensures in (
   λ some. both.0 (c.some_stands_as.ensures.0 some),
   λ has. c.some_stands_as.ensures.1 (both.1 has),
 )

@@ -8,7 +8,7 @@ use Rattle.plancheck.proofs.quiet.conflicts_with_none.Goals as goal
 
 pub returns-in-None : goal.returns-in-None
 returns-in-None c = (
-  λ _. free_of_absent c.args.db.now c.args.found.now (λ present. true≢false (sym (c.in-None.ensures.there ∙ present))),
+  λ _. free_of_absent c.args.db.now c.args.entry.now (λ present. true≢false (sym (c.in-None.ensures.there ∙ present))),
   λ _. refl,
 )
 
@@ -18,7 +18,7 @@ returns-in-Some c =
     ↔ All (λ atom. All (λ other. DoesNotMatch pkg other atom) c.args.db.now) atoms in
     let Found : Pkg → Type 0 = λ pkg. MatchesNone pkg pkg.relations.conflicts in
     let unmatched = subst Found c.in-Some.ensures.same (subst (MatchesNone c.in-Some.pkg.now) c.conflicts.ensures c.no_atom_matches.ensures) in
-    let both = free_by_atoms c.args.db.now c.args.found.now (sym c.in-Some.ensures.there) in (
+    let both = free_by_atoms c.args.db.now c.args.entry.now (sym c.in-Some.ensures.there) in (
       λ all. both.0 (unmatched.0 all),
       λ free. unmatched.1 (both.1 free),
     )

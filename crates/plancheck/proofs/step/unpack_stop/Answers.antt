@@ -14,6 +14,6 @@ returns c =
     (λ rule. IsFirstUnkept (UnpackAsks listed c.args.db.now name version) unpack_rules rule) in
     let asked : Option IndexPackage = listed_of c.args.universe.now c.args.name.now c.args.version.now in
     let read = c.version_of-version.result in
-    let found = subst (λ listed. Stops listed c.as_bytes.result.now read) c.requires c.unpack_failing.ensures in
-    let named = subst (λ name. Stops asked name read) c.as_bytes.ensures.bytes found in
+    let stops = subst (λ listed. Stops listed c.as_bytes.result.now read) c.requires c.unpack_failing.ensures in
+    let named = subst (λ name. Stops asked name read) c.as_bytes.ensures.bytes stops in
     subst (λ version. Stops asked c.args.name.now version) c.version_of-version.ensures named

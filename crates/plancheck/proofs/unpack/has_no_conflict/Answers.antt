@@ -9,10 +9,10 @@ use Rattle.plancheck.proofs.unpack.has_no_conflict.Goals as goal
 pub returns-then-no_atom_matches : goal.returns-then-no_atom_matches
 returns-then-no_atom_matches c =
     let Unmatched : List Atom → Type 0 = λ atoms. All (λ atom. All (λ other. DoesNotMatch c.args.pkg.now other atom) c.args.db.now) atoms in (
-      λ peaceful. no_conflict_by_ways c.args.db.now c.args.pkg.now
+      λ none_conflicts. no_conflict_by_ways c.args.db.now c.args.pkg.now
           (subst Unmatched c.conflicts.ensures (c.no_atom_matches.ensures.0 c.if-no_atom_matches.true))
-          (c.are_others_peaceful.ensures.0 peaceful),
-      λ none. c.are_others_peaceful.ensures.1 (others_ways c.args.db.now c.args.pkg.now none),
+          (c.no_other_conflicts.ensures.0 none_conflicts),
+      λ none. c.no_other_conflicts.ensures.1 (others_ways c.args.db.now c.args.pkg.now none),
     )
 
 pub returns-else-no_atom_matches : goal.returns-else-no_atom_matches

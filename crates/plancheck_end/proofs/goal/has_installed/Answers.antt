@@ -9,9 +9,9 @@ use Rattle.plancheck_end.proofs.goal.has_installed.Goals as goal
 pub returns : goal.returns
 returns c =
     let P : Pkg → Type 0 = λ member. (member.name ≡ c.args.name.now) × Meets member.version c.args.restriction.now in
-    let Q : Record → Type 0 = λ found. IsInstalled found × P (pkg_of found) in
+    let Q : Record → Type 0 = λ entry. IsInstalled entry × P (pkg_of entry) in
     let both = holders-any Q c.args.name.now c.args.db.now c.holders.result c.holders.ensures
-    (λ found has. named-holds c.args.name.now found has.1.0) in (
+    (λ entry has. named-holds c.args.name.now entry has.1.0) in (
       λ there. some_installed P c.args.db.now (both.0 (c.some_is_asked_for.ensures.0 there)),
       λ has. c.some_is_asked_for.ensures.1 (both.1 (installed_some P c.args.db.now has)),
     )

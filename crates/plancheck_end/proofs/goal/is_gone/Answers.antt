@@ -8,9 +8,9 @@ use Rattle.plancheck_end.proofs.goal.is_gone.Goals as goal
 
 pub returns : goal.returns
 returns c =
-    let P : Record → Type 0 = λ found. found.name ≡ c.args.name.now → IsTrue (is_not_installed_state found.state) in
+    let P : Record → Type 0 = λ entry. entry.name ≡ c.args.name.now → IsTrue (is_not_installed_state entry.state) in
     let both = holders-all P c.args.name.now c.args.db.now c.holders.result c.holders.ensures
-    (λ found not_held named. absurd (true≢false (sym (named-holds c.args.name.now found named) ∙ not_held))) in (
+    (λ entry not_held named. absurd (true≢false (sym (named-holds c.args.name.now entry named) ∙ not_held))) in (
       λ gone. both.0 (c.are_others_or_gone.ensures.0 gone),
       λ all. c.are_others_or_gone.ensures.1 (both.1 all),
     )

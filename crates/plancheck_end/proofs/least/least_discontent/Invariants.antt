@@ -6,6 +6,6 @@ use Rattle.rules.specs.Sound.{HasItsRelations}
 use Rattle.plancheck_end.specs.Least.{IsLeastWithout}
 use Rattle.plancheck_end.proofs.least.least_discontent.Given as goal
 
-abbrev pub invariant-loop-found : goal.invariant-loop-found
-invariant-loop-found l = IsLeastWithout (λ (found : Record). IsInstalled found → HasItsRelations (installed_of l.db) (pkg_of found))
-    (λ (found : Record). found.name) (take l.found-index l.records) (option_copied l.least)
+abbrev pub invariant-loop-entry : goal.invariant-loop-entry
+invariant-loop-entry l = IsLeastWithout (λ (entry : Record). IsInstalled entry → HasItsRelations (installed_of l.db) (pkg_of entry))
+    (λ (entry : Record). entry.name) (take l.entry-index l.records) (option_copied l.least)

@@ -6,16 +6,16 @@ use Rattle.plancheck_end.specs.Least.{IsLeastWithout}
 use Rattle.plancheck_end.proofs.LeastLemmas.{with_the_next, with_all}
 use Rattle.plancheck_end.proofs.least.least_unfinished.Goals as goal
 
-pub loop-found-preserved : goal.loop-found-preserved
-loop-found-preserved c = with_the_next (λ (found : Record). ¬ IsUnfinished found) (λ (found : Record). found.name) c.as_slice-records.result.now
-    c.loop-found.found-index c.found-item.result c.name.result.now (option_copied c.loop-found.least)
-    (option_copied c.least_with-least.result) c.is_finished.result c.loop-found-test.true c.found-item.is c.name.ensures
-    c.is_finished.ensures c.least_with-least.ensures c.loop-found.invariant
+pub loop-entry-preserved : goal.loop-entry-preserved
+loop-entry-preserved c = with_the_next (λ (entry : Record). ¬ IsUnfinished entry) (λ (entry : Record). entry.name) c.as_slice-records.result.now
+    c.loop-entry.entry-index c.entry-item.result c.name.result.now (option_copied c.loop-entry.least)
+    (option_copied c.least_with-least.result) c.is_finished.result c.loop-entry-test.true c.entry-item.is c.name.ensures
+    c.is_finished.ensures c.least_with-least.ensures c.loop-entry.invariant
 
 pub returns : goal.returns
 returns c =
-    let Least : List Record → Type 0 = λ records. IsLeastWithout (λ (found : Record). ¬ IsUnfinished found)
-    (λ (found : Record). found.name) records (option_copied c.loop-found.least) in
-    subst Least c.as_slice-records.ensures (with_all (λ (found : Record). ¬ IsUnfinished found)
-    (λ (found : Record). found.name) c.as_slice-records.result.now c.loop-found.found-index (option_copied c.loop-found.least)
-    c.loop-found-test.false c.loop-found.invariant)
+    let Least : List Record → Type 0 = λ records. IsLeastWithout (λ (entry : Record). ¬ IsUnfinished entry)
+    (λ (entry : Record). entry.name) records (option_copied c.loop-entry.least) in
+    subst Least c.as_slice-records.ensures (with_all (λ (entry : Record). ¬ IsUnfinished entry)
+    (λ (entry : Record). entry.name) c.as_slice-records.result.now c.loop-entry.entry-index (option_copied c.loop-entry.least)
+    c.loop-entry-test.false c.loop-entry.invariant)

@@ -5,6 +5,6 @@ use Rattle.rules.specs.Database.{Record, IsUnfinished}
 use Rattle.plancheck_end.specs.Least.{IsLeastWithout}
 use Rattle.plancheck_end.proofs.least.least_unfinished.Given as goal
 
-abbrev pub invariant-loop-found : goal.invariant-loop-found
-invariant-loop-found l = IsLeastWithout (λ (found : Record). ¬ IsUnfinished found) (λ (found : Record). found.name)
-    (take l.found-index l.records) (option_copied l.least)
+abbrev pub invariant-loop-entry : goal.invariant-loop-entry
+invariant-loop-entry l = IsLeastWithout (λ (entry : Record). ¬ IsUnfinished entry) (λ (entry : Record). entry.name)
+    (take l.entry-index l.records) (option_copied l.least)

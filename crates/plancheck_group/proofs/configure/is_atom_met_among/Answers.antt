@@ -9,10 +9,10 @@ use Rattle.plancheck_group.proofs.configure.is_atom_met_among.Goals as goal
 
 pub returns : goal.returns
 returns c =
-    let P : Record → Type 0 = λ found. (is_present_among c.args.part.now found ≡ true) × Matches (pkg_of found) c.args.atom.now in
+    let P : Record → Type 0 = λ entry. (is_present_among c.args.part.now entry ≡ true) × Matches (pkg_of entry) c.args.atom.now in
     let both = holders-any P c.args.atom.now.name c.args.db.now c.holders.result
     (subst (λ name. AreHolders name c.args.db.now c.holders.result) c.name.ensures c.holders.ensures)
-    (λ found has. matching-holds found c.args.atom.now has.1) in (
+    (λ entry has. matching-holds entry c.args.atom.now has.1) in (
       λ some. both.0 (c.some_holder_matches.ensures.0 some),
       λ some. c.some_holder_matches.ensures.1 (both.1 some),
     )

@@ -10,9 +10,9 @@ use Rattle.plancheck_group.proofs.configure.some_matches_among.Goals as goal
 
 pub returns : goal.returns
 returns c =
-    let P : Record → Type 0 = λ found. is_present_among c.args.part.now found ≡ true in
+    let P : Record → Type 0 = λ entry. is_present_among c.args.part.now entry ≡ true in
     let Decides : List Atom → Type 0 = λ atoms. IsTrue c.some_atom_is_met_among.result
-    ↔ Any (λ (found : Record). P found × MatchesSome (pkg_of found) atoms) c.args.db.now in
+    ↔ Any (λ (entry : Record). P entry × MatchesSome (pkg_of entry) atoms) c.args.db.now in
     let both = some-by-atoms P c.args.db.now c.as_slice.result.now in
     subst Decides c.as_slice.ensures (
       λ some. both.0 (c.some_atom_is_met_among.ensures.0 some),

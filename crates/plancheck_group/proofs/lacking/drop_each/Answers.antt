@@ -12,10 +12,10 @@ loop-name-init c = subst (λ (items : List (Bor (List ℕ))). IsWalked c.args.db
 pub loop-name-preserved : goal.loop-name-preserved
 loop-name-preserved c =
     let db = c.args.db.now in let names = c.args.names.now in let place = c.loop-name.name-index in
-    up_to_next (λ so_far. IsWalked db so_far c.args.part.now c.look_at.new.part (length c.look_at.new.gone.items)) names place c.name-item.result
+    up_to_next (λ so_far. IsWalked db so_far c.args.part.now c.move_lacking.new.part (length c.move_lacking.new.gone.items)) names place c.name-item.result
     c.loop-name-test.true c.name-item.is
-    (walk_on db (take place names) c.args.part.now c.loop-name.part c.look_at.new.part c.name-item.result (length c.loop-name.gone.items)
-    (length c.look_at.new.gone.items) c.loop-name.invariant (rw c.as_bytes.ensures.bytes at c.in_ok-look_at.ensures))
+    (walk_on db (take place names) c.args.part.now c.loop-name.part c.move_lacking.new.part c.name-item.result (length c.loop-name.gone.items)
+    (length c.move_lacking.new.gone.items) c.loop-name.invariant (rw c.as_bytes.ensures.bytes at c.in_ok-move_lacking.ensures))
 
 pub returns : goal.returns
 returns c = up_to_end (λ so_far. IsWalked c.args.db.now so_far c.args.part.now c.loop-name.part (length c.loop-name.gone.items)) c.args.names.now

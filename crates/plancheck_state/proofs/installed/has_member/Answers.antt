@@ -11,9 +11,9 @@ pub returns : goal.returns
 unfolding HasMember
 returns c =
     let P : Pkg → Type 0 = λ member. member.name ≡ c.args.name.now in
-    let Q : Record → Type 0 = λ found. IsInstalled found × (found.name ≡ c.args.name.now) in
+    let Q : Record → Type 0 = λ entry. IsInstalled entry × (entry.name ≡ c.args.name.now) in
     let both = holders-any Q c.args.name.now c.args.db.now c.holders.result c.holders.ensures
-    (λ found has. named-holds c.args.name.now found has.1) in (
+    (λ entry has. named-holds c.args.name.now entry has.1) in (
       λ there. some_installed P c.args.db.now (both.0 (c.some_is_installed.ensures.0 there)),
       λ has. c.some_is_installed.ensures.1 (both.1 (installed_some P c.args.db.now has)),
     )

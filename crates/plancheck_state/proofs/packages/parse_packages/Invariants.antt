@@ -4,5 +4,5 @@ use Rattle.plancheck_state.specs.Packages.{packages_of}
 use Rattle.plancheck_state.proofs.packages.parse_packages.Given as goal
 
 abbrev pub invariant-loop-record : goal.invariant-loop-record
-invariant-loop-record l = l.packages.items ++ packages_of (map (λ found. found.now) (drop l.record-index l.records))
-    ≡ packages_of (map (λ found. found.now) l.records)
+invariant-loop-record l = l.packages.items ++ packages_of (map (λ entry. entry.now) (drop l.record-index l.records))
+    ≡ packages_of (map (λ entry. entry.now) l.records)

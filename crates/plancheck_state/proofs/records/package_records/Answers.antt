@@ -8,13 +8,13 @@ pub package_record-requires : goal.package_record-requires
 package_record-requires c =
     let at = c.loop-record in
     let records = c.args.records.now in
-    let found = c.record-item.result in
+    let entry = c.record-item.result in
     let pkg = c.index-packages-place.result in
     let within : at.place < length records = rw at.invariant.1 c.loop-record-test.true in
     c.index-packages-place.is
     ∙ ap (λ xs. get_or xs at.place pkg) c.requires
-    ∙ get_or-map (λ entry. present_pkg entry.found) (map (λ r. r.now) records) at.place found.now pkg
+    ∙ get_or-map (λ entry. present_pkg entry.status) (map (λ r. r.now) records) at.place entry.now pkg
     (rw (length-map records (λ r. r.now)) within)
-    ∙ ap (λ entry. present_pkg entry.found) (get_or-map (λ r. r.now) records at.place found found.now within)
-    ∙ ap (λ i. present_pkg (get_or records i found).now.found) at.invariant.1
-    ∙ ap (λ r. present_pkg r.now.found) (sym c.record-item.is)
+    ∙ ap (λ entry. present_pkg entry.status) (get_or-map (λ r. r.now) records at.place entry entry.now within)
+    ∙ ap (λ i. present_pkg (get_or records i entry).now.status) at.invariant.1
+    ∙ ap (λ r. present_pkg r.now.status) (sym c.record-item.is)

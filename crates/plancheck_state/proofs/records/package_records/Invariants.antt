@@ -4,5 +4,5 @@ use Rattle.rules.specs.FileRecord.{records_of}
 use Rattle.plancheck_state.proofs.records.package_records.Given as goal
 
 abbrev pub invariant-loop-record : goal.invariant-loop-record
-invariant-loop-record l = (l.view.items ++ records_of (map (λ found. found.now) (drop l.record-index l.records))
-    ≡ records_of (map (λ found. found.now) l.records)) × (l.place ≡ l.record-index)
+invariant-loop-record l = (l.view.items ++ records_of (map (λ entry. entry.now) (drop l.record-index l.records))
+    ≡ records_of (map (λ entry. entry.now) l.records)) × (l.place ≡ l.record-index)

@@ -23,4 +23,4 @@ returns-in-Ok-clause-ok c =
 pub returns-in-Err-clause-err : goal.returns-in-Err-clause-err
 returns-in-Err-clause-err c =
     let line = c.args.line.now in
-    elim c.refused.ensures [ inl memory ↦ inl memory | inr other ↦ inr (none_held line (is_utf8 line) refl (c.in-Err.ensures.err other)) ]
+    elim c.refusal_of.ensures [ inl memory ↦ inl memory | inr other ↦ inr (none_held line (is_utf8 line) refl (c.in-Err.ensures.err other)) ]

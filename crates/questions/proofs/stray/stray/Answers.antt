@@ -13,11 +13,11 @@ tested [] key = refl
 tested (name ∷ names) key = ap (λ (b : Bool). bytes_eq name.now key || b) (tested names key)
 
 -- what a test of the first member's key says of all members
-first_key : (names : List (Bor (List ℕ))) (entry : String Global × Value) (later entries : List (String Global × Value)) (key : List ℕ) (found : Bool)
-    → entries ≡ entry ∷ later → key ≡ string_bytes entry.0 → found ≡ list_any (λ name. bytes_eq name.now key) names
+first_key : (names : List (Bor (List ℕ))) (entry : String Global × Value) (later entries : List (String Global × Value)) (key : List ℕ) (among : Bool)
+    → entries ≡ entry ∷ later → key ≡ string_bytes entry.0 → among ≡ list_any (λ name. bytes_eq name.now key) names
     → are_among (map (λ name. name.now) names) (members_view entries)
-    ≡ (found && are_among (map (λ name. name.now) names) (members_view later))
-first_key names entry later entries key found first is test =
+    ≡ (among && are_among (map (λ name. name.now) names) (members_view later))
+first_key names entry later entries key among first is test =
     let texts = map (λ (name : Bor (List ℕ)). name.now) names in
     ap (λ (es : List (String Global × Value)). are_among texts (members_view es)) first
     ∙ ap (λ (b : Bool). b && are_among texts (members_view later))

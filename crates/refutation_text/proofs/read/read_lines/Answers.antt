@@ -24,17 +24,17 @@ returns-in_err-line_in_text-clause-err c =
 
 pub loop-text-preserved : goal.loop-text-preserved
 loop-text-preserved c =
-    let found = c.in_ok-line_in_text.field-0 in
+    let line_read = c.in_ok-line_in_text.field-0 in
     let line = c.in-Some.text.now in
     let so_far = length c.loop-text.lines.items in
     let count : c.len.result ≡ so_far = omega arith in
-    let here : line_in_text (so_far + 1) line ≡ Ok found =
-    subst (λ (n : ℕ). line_in_text (n + 1) line ≡ Ok found) count c.in_ok-line_in_text.ensures.ok in
+    let here : line_in_text (so_far + 1) line ≡ Ok line_read =
+    subst (λ (n : ℕ). line_in_text (n + 1) line ≡ Ok line_read) count c.in_ok-line_in_text.ensures.ok in
     let longer : length c.push.new.self.items ≡ so_far + 1 =
-    ap length c.in_ok-push.ensures.items ∙ length_push c.loop-text.lines.items found in
+    ap length c.in_ok-push.ensures.items ∙ length_push c.loop-text.lines.items line_read in
     record {
       same = rw (longer, c.in_ok-push.ensures.items)
-          (lines_read c.loop-text.lines.items found (so_far + 1) c.loop-text.rest.now
+          (lines_read c.loop-text.lines.items line_read (so_far + 1) c.loop-text.rest.now
           line c.in-Some.after.now c.in-Some.ensures here
           ∙ c.loop-text.invariant.same);
       within = omega (arith, longer, c.in_ok-line_in_text.ensures.within);

@@ -10,16 +10,16 @@ use Rattle.refutecheck.specs.Answer.{IsClauseWhere, IsLineAnswer}
 use Rattle.refutecheck.proofs.AnswerLemmas.{where_same}
 use Rattle.refutecheck.proofs.check.clause_of_line.Goals as goal
 
-pub returns-in_ok-found-in-Derived : goal.returns-in_ok-found-in-Derived
-returns-in_ok-found-in-Derived c = λ earlier zip.
+pub returns-in_ok-answer-in-Derived : goal.returns-in_ok-answer-in-Derived
+returns-in_ok-answer-in-Derived c = λ earlier zip.
     let clauses : List (List Literal) = c.args.clauses.now in
     let law = c.follows_from_lists.ensures c.args.premises.now earlier clauses c.in-Derived.literals c.in-Derived.hints zip in
     let By : List Literal → Type 0 = λ literals. IsClauseWhere
-    (EndsFalse Contains clauses (Contains literals) c.as_slice-in-Derived.result.now) (Contains literals) c.in_ok-found-in-Derived.found in
+    (EndsFalse Contains clauses (Contains literals) c.as_slice-in-Derived.result.now) (Contains literals) c.in_ok-answer-in-Derived.answer in
     let Over : List ℕ → Type 0 = λ hints. IsClauseWhere (EndsFalse Contains clauses (Contains c.in-Derived.literals) hints)
-    (Contains c.in-Derived.literals) c.in_ok-found-in-Derived.found in
-    let Of : Line → Type 0 = λ found. IsLineAnswer c.args.premises.now earlier found c.in_ok-found-in-Derived.found in
+    (Contains c.in-Derived.literals) c.in_ok-answer-in-Derived.answer in
+    let Of : Line → Type 0 = λ line. IsLineAnswer c.args.premises.now earlier line c.in_ok-answer-in-Derived.answer in
     subst Of (sym c.in-Derived.is) (where_same (EndsFalse Contains clauses (Contains c.in-Derived.literals) c.in-Derived.hints)
     (IsGoodLine c.args.premises.now earlier (line.Derived c.in-Derived.literals c.in-Derived.hints)) (Contains c.in-Derived.literals)
-    c.in_ok-found-in-Derived.found (law.1, law.0)
-    (subst Over c.as_slice-in-Derived.ensures (subst By c.as_slice.ensures c.in_ok-found-in-Derived.ensures)))
+    c.in_ok-answer-in-Derived.answer (law.1, law.0)
+    (subst Over c.as_slice-in-Derived.ensures (subst By c.as_slice.ensures c.in_ok-answer-in-Derived.ensures)))

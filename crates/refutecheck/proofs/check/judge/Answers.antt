@@ -7,7 +7,7 @@ use Rattle.refutecheck.proofs.check.judge.Goals as goal
 
 pub returns-then-not-branch : goal.returns-then-not-branch
 returns-then-not-branch c =
-    let Bad : Line → Type 0 = λ found. ¬ IsGoodLine c.args.premises.now (take c.loop-place.place c.args.lines.now) found in
+    let Bad : Line → Type 0 = λ line. ¬ IsGoodLine c.args.premises.now (take c.loop-place.place c.args.lines.now) line in
     first_bad c.args.premises.now c.args.lines.now c.loop-place.kept c.loop-place.place c.index-lines-place.result
     c.loop-place-test.true c.loop-place.invariant (subst Bad c.index-lines-place.is (c.in_ok-keep_line.ensures.bad c.if-not-branch.true))
 

@@ -14,6 +14,6 @@ returns-in-Some-clause-good c = λ is.
 pub returns-in_ok-note-in-Some-2-clause-good : goal.returns-in_ok-note-in-Some-2-clause-good
 returns-in_ok-note-in-Some-2-clause-good c = λ is.
     let Answer : Option (List Literal) → Type 0 = IsLineAnswer c.args.premises.now c.args.earlier.now c.args.line.now in
-    let found = subst Answer c.in-Some-2.is (c.in_ok-clause_of_line.ensures c.args.earlier.now c.requires.zip) in
+    let facts = subst Answer c.in-Some-2.is (c.in_ok-clause_of_line.ensures c.args.earlier.now c.requires.zip) in
     one_line_more c.args.premises.now c.args.earlier.now c.args.kept.now c.push.new.self c.args.line.now c.in-Some-2.clause
-    c.good_lines_grow.ensures c.requires found.0 found.1 c.in_ok-push-in-Some-2.ensures
+    c.good_lines_grow.ensures c.requires facts.0 facts.1 c.in_ok-push-in-Some-2.ensures

@@ -10,6 +10,6 @@ use Rattle.refutecheck.proofs.follow.narrow.Goals as goal
 pub returns-in_ok-insert-in-One : goal.returns-in_ok-insert-in-One
 returns-in_ok-insert-in-One c =
     let After : Literal → Type 0 = λ literal. AreAlike (IsFalse c.insert.new.self)
-    (λ found. IsFalse c.args.falses.now found ⊎ (found ≡ literal)) in
+    (λ other. IsFalse c.args.falses.now other ⊎ (other ≡ literal)) in
     narrow_one (IsFalse c.args.falses.now) (Contains c.args.clause.now) (IsFalse c.insert.new.self) c.in-One.literal c.in-One.ensures
     (subst After c.negation.ensures c.in_ok-insert-in-One.ensures)

@@ -10,7 +10,7 @@ use Rattle.refutecheck.proofs.goals.clause_asked_by.Goals as goal
 
 pub returns-in_ok-literals-in-Install : goal.returns-in_ok-literals-in-Install
 returns-in_ok-literals-in-Install c =
-    let Of : Goal → Type 0 = λ found. IsClauseWhere (AsksForMember found) (Selects c.args.premises.now (IsAskedBy c.args.premises.now found))
+    let Of : Goal → Type 0 = λ asked. IsClauseWhere (AsksForMember asked) (Selects c.args.premises.now (IsAskedBy c.args.premises.now asked))
     (Some c.in_ok-literals-in-Install.literals) in
     let Over : List ℕ → Type 0 = λ name. IsListOf (Selects c.args.premises.now
     (λ pkg. (pkg.name ≡ name) × Meets pkg.version c.in-Install.restriction)) c.in_ok-literals-in-Install.literals in
@@ -18,7 +18,7 @@ returns-in_ok-literals-in-Install c =
 
 pub returns-in_ok-literals-in-Upgrade : goal.returns-in_ok-literals-in-Upgrade
 returns-in_ok-literals-in-Upgrade c =
-    let Of : Goal → Type 0 = λ found. IsClauseWhere (AsksForMember found) (Selects c.args.premises.now (IsAskedBy c.args.premises.now found))
+    let Of : Goal → Type 0 = λ asked. IsClauseWhere (AsksForMember asked) (Selects c.args.premises.now (IsAskedBy c.args.premises.now asked))
     (Some c.in_ok-literals-in-Upgrade.literals) in
     let Over : List ℕ → Type 0 = λ name. IsListOf (Selects c.args.premises.now
     (λ pkg. MatchOption (candidate_of c.args.premises.now name) ⊥ (λ candidate. IsOf name candidate pkg))) c.in_ok-literals-in-Upgrade.literals in

@@ -7,10 +7,10 @@ use Rattle.refutecheck.proofs.goals.is_upgrade.Goals as goal
 
 pub returns-in-None : goal.returns-in-None
 returns-in-None c = decides_no_start c.args.premises.now.starts c.name.result.now (IsUpgradeFrom c.args.premises.now c.args.pair.now.pkg)
-    c.in-None.ensures.found (λ start upgrade. upgrade.name ∙ sym c.name.ensures)
+    c.in-None.ensures.start (λ start upgrade. upgrade.name ∙ sym c.name.ensures)
 
 pub returns-in-Some : goal.returns-in-Some
 returns-in-Some c = decides_start c.args.premises.now.starts c.in-Some.ensures.distinct c.name.result.now c.in-Some.start.now
-    (IsUpgradeFrom c.args.premises.now c.args.pair.now.pkg) c.is_upgrade_from.result c.in-Some.ensures.found
+    (IsUpgradeFrom c.args.premises.now c.args.pair.now.pkg) c.is_upgrade_from.result c.in-Some.ensures.start
     (λ start upgrade. upgrade.name ∙ sym c.name.ensures)
     (by_record c.args.premises.now c.args.pair.now.pkg c.in-Some.start.now c.is_upgrade_from.result c.is_upgrade_from.ensures)

@@ -13,15 +13,15 @@ use Rattle.refutecheck.proofs.AnswerLemmas.{no_atoms, one_atom_more}
 use Rattle.refutecheck.proofs.needs.out_or_matching.Goals as goal
 
 pub loop-atom-init : goal.loop-atom-init
-loop-atom-init c = λ found.
-    let With : List Literal → Type 0 = λ items. Contains items found ↔ IsOutOrMatching c.args.premises.now c.args.number [] found in
+loop-atom-init c = λ disjunct.
+    let With : List Literal → Type 0 = λ items. Contains items disjunct ↔ IsOutOrMatching c.args.premises.now c.args.number [] disjunct in
     let one : c.push.new.self.items ≡ literal.Unselected c.args.number ∷ [] = search rules in
-    subst With (sym one) (no_atoms c.args.premises.now c.args.number found)
+    subst With (sym one) (no_atoms c.args.premises.now c.args.number disjunct)
 
 pub loop-atom-preserved : goal.loop-atom-preserved
 loop-atom-preserved c =
-    let Adds : Atom → Type 0 = λ atom. (found : Literal) → Contains c.push_matching.new.literals.items found
-    ↔ (Contains c.loop-atom.literals.items found ⊎ Selects c.args.premises.now (λ pkg. Matches pkg atom) found) in
+    let Adds : Atom → Type 0 = λ atom. (disjunct : Literal) → Contains c.push_matching.new.literals.items disjunct
+    ↔ (Contains c.loop-atom.literals.items disjunct ⊎ Selects c.args.premises.now (λ pkg. Matches pkg atom) disjunct) in
     one_atom_more c.args.premises.now c.args.number c.args.atoms.now c.loop-atom.atom-index c.atom-item.result c.loop-atom-test.true
     (Contains c.loop-atom.literals.items) (Contains c.push_matching.new.literals.items) c.loop-atom.invariant
     (subst Adds c.atom-item.is c.in_ok-push_matching.ensures)

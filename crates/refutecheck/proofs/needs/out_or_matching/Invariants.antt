@@ -7,5 +7,5 @@ use Rattle.refutecheck.specs.Answer.{IsOutOrMatching}
 use Rattle.refutecheck.proofs.needs.out_or_matching.Given as goal
 
 abbrev pub invariant-loop-atom : goal.invariant-loop-atom
-invariant-loop-atom l = (found : Literal)
-    → Contains l.literals.items found ↔ IsOutOrMatching l.premises l.number (take l.atom-index l.atoms) found
+invariant-loop-atom l = (disjunct : Literal)
+    → Contains l.literals.items disjunct ↔ IsOutOrMatching l.premises l.number (take l.atom-index l.atoms) disjunct

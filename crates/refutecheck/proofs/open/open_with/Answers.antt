@@ -20,13 +20,13 @@ returns-in-Nothing c = λ clause is. with_first (IsFalse c.args.falses.now) clau
     (subst (IsOpenOf (IsFalse c.args.falses.now) (Contains clause)) c.in-Nothing.is is)
 
 pub returns-in-One : goal.returns-in-One
-returns-in-One c = λ clause is. with_same (IsFalse c.args.falses.now) clause c.args.literal c.in-One.found
+returns-in-One c = λ clause is. with_same (IsFalse c.args.falses.now) clause c.args.literal c.in-One.other
     (c.is_same.ensures.0 c.if-is_same.true) (subst (IsOpenOf (IsFalse c.args.falses.now) (Contains clause)) c.in-One.is is)
 
 pub returns-in-One-2 : goal.returns-in-One-2
-returns-in-One-2 c = λ clause is. with_second (IsFalse c.args.falses.now) clause c.args.literal c.in-One.found
+returns-in-One-2 c = λ clause is. with_second (IsFalse c.args.falses.now) clause c.args.literal c.in-One.other
     (isnt (IsFalse c.args.falses.now c.args.literal) c.has.result c.if-has.false c.has.ensures.1)
-    (isnt (c.in-One.found ≡ c.args.literal) c.is_same.result c.if-is_same.false c.is_same.ensures.1)
+    (isnt (c.in-One.other ≡ c.args.literal) c.is_same.result c.if-is_same.false c.is_same.ensures.1)
     (subst (IsOpenOf (IsFalse c.args.falses.now) (Contains clause)) c.in-One.is is)
 
 pub returns-in-More : goal.returns-in-More

@@ -7,7 +7,7 @@ use Rattle.refutecheck.proofs.pairs.are_of_one_name.Goals as goal
 
 pub returns-in-Some : goal.returns-in-Some
 returns-in-Some c =
-    let Of : List ℕ → Type 0 = λ name. IsTrue c.is_named.result ↔ PairHas c.args.premises.now c.args.other (λ found. found.name ≡ name) in
+    let Of : List ℕ → Type 0 = λ name. IsTrue c.is_named.result ↔ PairHas c.args.premises.now c.args.other (λ other_pkg. other_pkg.name ≡ name) in
     decides_at c.args.premises.now c.args.number c.in-Some.pair.now.pkg
-    (λ pkg. PairHas c.args.premises.now c.args.other (λ found. found.name ≡ pkg.name)) c.is_named.result c.in-Some.ensures
+    (λ pkg. PairHas c.args.premises.now c.args.other (λ other_pkg. other_pkg.name ≡ pkg.name)) c.is_named.result c.in-Some.ensures
     (subst Of c.name.ensures c.is_named.ensures)

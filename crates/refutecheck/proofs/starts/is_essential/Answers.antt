@@ -10,11 +10,11 @@ pub returns-in-None : goal.returns-in-None
 unfolding IsEssentialIn
 returns-in-None c =
     let Of : Start → Type 0 = λ start. (start.name ≡ c.args.name.now) × IsTrue start.is_essential × IsTrue start.is_present in
-    decides_no_start c.args.premises.now.starts c.args.name.now Of c.in-None.ensures.found (λ start is. is.0)
+    decides_no_start c.args.premises.now.starts c.args.name.now Of c.in-None.ensures.start (λ start is. is.0)
 
 pub returns-in-Some : goal.returns-in-Some
 unfolding IsEssentialIn
 returns-in-Some c =
     let Of : Start → Type 0 = λ start. (start.name ≡ c.args.name.now) × IsTrue start.is_essential × IsTrue start.is_present in
     decides_start c.args.premises.now.starts c.in-Some.ensures.distinct c.args.name.now c.in-Some.start.now Of c.is_essential_at.result
-    c.in-Some.ensures.found (λ start is. is.0) c.is_essential_at.ensures
+    c.in-Some.ensures.start (λ start is. is.0) c.is_essential_at.ensures

@@ -8,10 +8,10 @@ use Rattle.refutecheck.proofs.starts.stands_at_start.Goals as goal
 pub returns-in-None : goal.returns-in-None
 returns-in-None c =
     let Of : Start → Type 0 = λ start. (start.name ≡ c.args.name.now) × MatchOption start.standing ⊥ (λ _. ⊤) in
-    decides_no_start c.args.premises.now.starts c.args.name.now Of c.in-None.ensures.found (λ start is. is.0)
+    decides_no_start c.args.premises.now.starts c.args.name.now Of c.in-None.ensures.start (λ start is. is.0)
 
 pub returns-in-Some : goal.returns-in-Some
 returns-in-Some c =
     let Of : Start → Type 0 = λ start. (start.name ≡ c.args.name.now) × MatchOption start.standing ⊥ (λ _. ⊤) in
     decides_start c.args.premises.now.starts c.in-Some.ensures.distinct c.args.name.now c.in-Some.start.now Of c.is_standing_at.result
-    c.in-Some.ensures.found (λ start is. is.0) c.is_standing_at.ensures
+    c.in-Some.ensures.start (λ start is. is.0) c.is_standing_at.ensures

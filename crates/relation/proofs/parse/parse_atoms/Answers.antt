@@ -1,4 +1,4 @@
-use Rattle.relation_text.specs.declared.shape.Form.TheVariants.{Atoms}
+use Rattle.relation_text.specs.declared.shape.RelationForm.TheVariants.{Atoms}
 use Rattle.relation.proofs.GoodVersions.{good_unless_refused}
 use Rattle.relation.proofs.parse.parse_atoms.Goals as goal
 

@@ -1,4 +1,4 @@
-use Rattle.relation_text.specs.declared.shape.Form.TheVariants.{Provides}
+use Rattle.relation_text.specs.declared.shape.RelationForm.TheVariants.{Provides}
 use Rattle.relation.proofs.GoodVersions.{good_unless_refused}
 use Rattle.relation.proofs.parse.parse_provides.Goals as goal
 

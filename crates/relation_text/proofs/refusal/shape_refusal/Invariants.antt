@@ -1,7 +1,7 @@
 -- The refusal of the bytes that are left is that of the value.
 use Rattle.std.proofs.Common.{◌≡◌, drop}
 use Rattle.relation_text.specs.Refusal.{shape_refusal_from}
-use Rattle.relation_text.specs.declared.shape.Place.TheVariants.{Between}
+use Rattle.relation_text.specs.declared.shape.ShapePlace.TheVariants.{Between}
 use Rattle.relation_text.proofs.refusal.shape_refusal.Given as goal
 
 abbrev pub invariant-loop-offset : goal.invariant-loop-offset

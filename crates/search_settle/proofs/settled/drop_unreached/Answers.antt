@@ -11,7 +11,7 @@ use Rattle.search_settle.proofs.settled.drop_unreached.Goals as goal
 pub returns-in-None-clause-reached : goal.returns-in-None-clause-reached
 unfolding AllReached
 returns-in-None-clause-reached c = λ same set closed number within chosen.
-    c.in_ok-reached.ensures.found.sound set closed number (c.in-None.ensures number chosen)
+    c.in_ok-reached.ensures.members.sound set closed number (c.in-None.ensures number chosen)
 
 pub returns-clause-makes_true : goal.returns-clause-makes_true
 unfolding PartsAreTrue

@@ -4,5 +4,5 @@ use Rattle.clauses.specs.Clauses.{Clauses}
 use Rattle.search.specs.Found.{IsAnswer}
 use Rattle.solver.proofs.decide_request.decide_by.Goals as goal
 
-pub decided_by-requires-clause-found : goal.decided_by-requires-clause-found
-decided_by-requires-clause-found c = subst (λ (k : Clauses). IsAnswer k c.args.limit c.in_ok-found.found) c.clauses-clauses.ensures c.in_ok-found.ensures
+pub decided_by-requires-clause-outcome : goal.decided_by-requires-clause-outcome
+decided_by-requires-clause-outcome c = subst (λ (k : Clauses). IsAnswer k c.args.limit c.in_ok-outcome.outcome) c.clauses-clauses.ensures c.in_ok-outcome.ensures

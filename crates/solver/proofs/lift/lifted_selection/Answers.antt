@@ -4,8 +4,8 @@ use Rattle.refutation.specs.Selection.{selects}
 use Rattle.solver.proofs.LiftLemmas.{lifted_ascend, lifted_lists, standing_were, within_part}
 use Rattle.solver.proofs.lift.lifted_selection.Goals as goal
 
-pub lifted-requires : goal.lifted-requires
-lifted-requires c =
+pub lift_numbers-requires : goal.lift_numbers-requires
+lift_numbers-requires c =
     let reached = c.args.reached.now in
     within_part c.args.universe.now reached.part reached.numbers.items c.as_slice.result.now c.args.encoding.now c.args.selection.now
     c.args.selection.now c.requires.part c.requires.encoding c.requires.selection c.as_slice.ensures.value refl

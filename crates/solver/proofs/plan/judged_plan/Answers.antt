@@ -9,7 +9,7 @@ use Rattle.solver.proofs.plan.judged_plan.Goals as goal
 
 pub returns-in-Yes-clause-solved : goal.returns-in-Yes-clause-solved
 returns-in-Yes-clause-solved c =
-    let Is : Verdict → Type 0 = λ found. IsVerdict c.args.universe.now c.args.start.now c.as_slice.result.now found in
+    let Is : Verdict → Type 0 = λ verdict. IsVerdict c.args.universe.now c.args.start.now c.as_slice.result.now verdict in
     let Good : List Step → Type 0 = λ steps. IsGoodPlan c.args.universe.now c.args.start.now steps in
     let yes : Is verdict.Yes = subst Is c.in-Yes.is c.in_ok-verdict.ensures in
     (subst Good c.as_slice.ensures.value yes, c.requires.planned)

@@ -2,30 +2,30 @@
 use Rattle.std.proofs.Common.{List, ℕ, subst, sym}
 use Rattle.clauses.specs.Clause.{MakesAllTrue}
 use Rattle.search.specs.Found.{IsAnswer, IsSelection}
-use Rattle.search.specs.declared.found.Found.{Found}
-use Rattle.search.specs.declared.found.Found.TheVariants as found
+use Rattle.search.specs.declared.answer.SearchAnswer.{SearchAnswer}
+use Rattle.search.specs.declared.answer.SearchAnswer.TheVariants as outcome
 use Rattle.solver.proofs.ChoiceLemmas.{choice_left}
 use Rattle.solver.proofs.solve_request.answer_of.Goals as goal
 
-pub settled-requires-clause-selection : goal.settled-requires-clause-selection
-settled-requires-clause-selection c =
-    let Is : Found → Type 0 = λ f. IsAnswer c.args.encoding.now.clauses c.args.limit f in
-    let answer : Is (found.Selection c.in-Selection.numbers) = subst Is c.in-Selection.is c.requires.found in
+pub settle_selection-requires-clause-selection : goal.settle_selection-requires-clause-selection
+settle_selection-requires-clause-selection c =
+    let Is : SearchAnswer → Type 0 = λ f. IsAnswer c.args.encoding.now.clauses c.args.limit f in
+    let answer : Is (outcome.Selection c.in-Selection.numbers) = subst Is c.in-Selection.is c.requires.outcome in
     subst (IsSelection c.args.encoding.now.clauses.numbers) (sym c.as_slice.ensures.value) answer.0
 
-pub settled-requires-clause-makes_true : goal.settled-requires-clause-makes_true
-settled-requires-clause-makes_true c =
-    let Is : Found → Type 0 = λ f. IsAnswer c.args.encoding.now.clauses c.args.limit f in
-    let answer : Is (found.Selection c.in-Selection.numbers) = subst Is c.in-Selection.is c.requires.found in
+pub settle_selection-requires-clause-makes_true : goal.settle_selection-requires-clause-makes_true
+settle_selection-requires-clause-makes_true c =
+    let Is : SearchAnswer → Type 0 = λ f. IsAnswer c.args.encoding.now.clauses c.args.limit f in
+    let answer : Is (outcome.Selection c.in-Selection.numbers) = subst Is c.in-Selection.is c.requires.outcome in
     subst (λ (xs : List ℕ). MakesAllTrue xs c.args.encoding.now.clauses.clauses) (sym c.as_slice.ensures.value) answer.1
 
-pub settled-requires-clause-present : goal.settled-requires-clause-present
-settled-requires-clause-present c = c.standing_records_are_present.ensures c.args.start.now c.args.universe.now c.requires.solvable.built.starts
+pub settle_selection-requires-clause-present : goal.settle_selection-requires-clause-present
+settle_selection-requires-clause-present c = c.standing_records_are_present.ensures c.args.start.now c.args.universe.now c.requires.solvable.built.starts
 
 pub returns-in-Limit-clause-solved : goal.returns-in-Limit-clause-solved
 returns-in-Limit-clause-solved c =
-    let Is : Found → Type 0 = λ f. IsAnswer c.args.encoding.now.clauses c.args.limit f in
-    let answer : Is (found.Limit c.in-Limit.spent) = subst Is c.in-Limit.is c.requires.found in
+    let Is : SearchAnswer → Type 0 = λ f. IsAnswer c.args.encoding.now.clauses c.args.limit f in
+    let answer : Is (outcome.Limit c.in-Limit.spent) = subst Is c.in-Limit.is c.requires.outcome in
     let reached = c.args.reached.now in (
       c.requires.quiet,
       answer.0,

@@ -11,16 +11,16 @@ use Rattle.stanza.specs.Streamed.{EndsLine, has_newline}
 use Rattle.stanza.proofs.AheadLemmas.{IsAhead-before, IsAhead-last, Reads-fault, Reads-more, Reads-open, no-comment-first, separator-behind}
 use Rattle.stanza.proofs.ahead.stanza_ahead.Goals as goal
 
-pub returns-in_default-clause-found : goal.returns-in_default-clause-found
-returns-in_default-clause-found c =
+pub returns-in_default-clause-ahead : goal.returns-in_default-clause-ahead
+returns-in_default-clause-ahead c =
     let w = c.loop-offset in (
       c.in_default.ensures.0,
       Reads-open c.args.is_over c.args.form (c.args.before + 1) c.args.text.now w.offset w.lines w.end w.opened w.known w.starts.items
           w.invariant c.in_default.ensures.0 (ap has_newline (sym c.split_at.ensures.back) ∙ c.in_default.ensures.1),
     )
 
-pub returns-then-is_separator-clause-found : goal.returns-then-is_separator-clause-found
-returns-then-is_separator-clause-found c =
+pub returns-then-is_separator-clause-ahead : goal.returns-then-is_separator-clause-ahead
+returns-then-is_separator-clause-ahead c =
     let w = c.loop-offset in
     let text = c.args.text.now in
     let len = c.in-Some.len in
@@ -75,14 +75,14 @@ loop-offset-preserved c =
     (Reads-more c.args.is_over c.args.form (c.args.before + 1) text w.offset w.lines w.end w.opened w.known w.starts.items len c.take_line.new.known c.take_line.new.starts.items
     w.invariant ends (ap is_separator (sym is-line) ∙ sym c.if-is_separator.ensures) (no-comment-first c.args.is_over c.args.form text w.offset len c.requires.begins ends) clean known starts)
 
-pub returns-then-is_over-clause-found : goal.returns-then-is_over-clause-found
-returns-then-is_over-clause-found c =
+pub returns-then-is_over-clause-ahead : goal.returns-then-is_over-clause-ahead
+returns-then-is_over-clause-ahead c =
     let w = c.loop-offset in
     IsAhead-last c.args.is_over c.args.form (c.args.before + 1) c.args.text.now w.offset w.lines w.end w.opened w.known w.starts.items w.invariant
     (omega (arith, c.requires.some, c.loop-offset-test.false)) (omega (arith, c.loop-offset-test.false)) c.if-is_over.true
 
-pub returns-clause-found : goal.returns-clause-found
-returns-clause-found c =
+pub returns-clause-ahead : goal.returns-clause-ahead
+returns-clause-ahead c =
     let w = c.loop-offset in (
       c.if-is_over.false,
       Reads-open c.args.is_over c.args.form (c.args.before + 1) c.args.text.now w.offset w.lines w.end w.opened w.known w.starts.items

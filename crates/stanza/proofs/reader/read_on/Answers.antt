@@ -2,21 +2,21 @@
 use Rattle.std.proofs.Common.{◌≡◌, [], ◌∷◌, arith, sym, ap, ◌∙◌, inl, inr, Err}
 use Rattle.std.proofs.lemmas.Result.{err_from_is_err_and}
 use Rattle.stanza.proofs.HeldLemmas.{filled-read, needs-more}
-use Rattle.stanza.specs.declared.error.ReadError.{ReadError}
-use Rattle.stanza.specs.declared.error.ReadError.TheVariants as read_error
+use Rattle.stanza.specs.declared.error.ReaderError.{ReaderError}
+use Rattle.stanza.specs.declared.error.ReaderError.TheVariants as read_error
 use Rattle.stanza.proofs.reader.read_on.Goals as goal
 
-no-read-of-memory : (let e : ReadError = read_error.OutOfMemory in e) ≡ read_error.Read → ⊥
+no-read-of-memory : (let e : ReaderError = read_error.OutOfMemory in e) ≡ read_error.Read → ⊥
 no-read-of-memory e = cc
 
-no-read-of-size : (let e : ReadError = read_error.TooLarge in e) ≡ read_error.Read → ⊥
+no-read-of-size : (let e : ReaderError = read_error.TooLarge in e) ≡ read_error.Read → ⊥
 no-read-of-size e = cc
 
 pub returns-in_err-is_over-in-More-clause-refused : goal.returns-in_err-is_over-in-More-clause-refused
 returns-in_err-is_over-in-More-clause-refused g c = λ left known.
     let w = c.loop-place in
     let f = w.invariant.known left known in
-    let more = needs-more w.is_over c.args.form w.held c.cut.new.self c.cut.new.starts.items c.in_ok-place.field-0 c.in-More.is c.in_ok-place.ensures.found in
+    let more = needs-more w.is_over c.args.form w.held c.cut.new.self c.cut.new.starts.items c.in_ok-place.field-0 c.in-More.is c.in_ok-place.ensures.cut in
     let e = c.in_err-is_over-in-More.ensures.large f.0 f.1 in
     let p = err_from_is_err_and c.from_residual-in_err-is_over-in-More.result c.from_residual-in_err-is_over-in-More.ensures.1 in
     rw (p.1, p.2) (elim e [
@@ -27,7 +27,7 @@ returns-in_err-is_over-in-More-clause-refused g c = λ left known.
 pub loop-place-preserved : goal.loop-place-preserved
 loop-place-preserved g c =
     let w = c.loop-place in
-    let more = needs-more w.is_over c.args.form w.held c.cut.new.self c.cut.new.starts.items c.in_ok-place.field-0 c.in-More.is c.in_ok-place.ensures.found in
+    let more = needs-more w.is_over c.args.form w.held c.cut.new.self c.cut.new.starts.items c.in_ok-place.field-0 c.in-More.is c.in_ok-place.ensures.cut in
     let filled = c.in_ok-is_over-in-More.ensures in
     record {
       held = filled.held;

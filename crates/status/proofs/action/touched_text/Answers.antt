@@ -17,4 +17,4 @@ returns c =
     ∙ ap (λ (front : List ℕ). front ++ fields_text (written_fields c.left_out.result status c.written_config_version-written.result (fields_of c.stanza.result.now)))
     c.new-text.ensures.items
     ∙ (λ i. fields_text (written_fields (left_out i) status (c.written_config_version-written.ensures i) (fields i)))
-    ∙ lasting-text c.args.old.now.found.state status (written_config_version c.args.mark.state c.args.config_version) c.args.old.now.stanza.fields
+    ∙ lasting-text c.args.old.now.status.state status (written_config_version c.args.mark.state c.args.config_version) c.args.old.now.stanza.fields

@@ -36,8 +36,8 @@ returns-in_ok-put-in-Some c =
     let name = c.args.name.now in
     let version = c.args.version.now in
     let listed = handed_in c.args.table.now.arch (option_copied c.args.given) in
-    let found = subst (λ found. MatchOption found (is_indexed_as name version listed ≡ false)
+    let answer = subst (λ answer. MatchOption answer (is_indexed_as name version listed ≡ false)
     (λ text. (is_indexed_as name version listed ≡ true) × IfSome listed (λ indexed. IsTextUnpacked indexed c.args.table.now name (arc_slice_items text))))
-    c.in-Some.is c.in_ok-text.ensures.found in
-    taken listed name version c.as_bytes.result.now (arc_slice_items c.in-Some.text) c.args.table.now c.put.new.self c.is_sound.ensures c.as_bytes.ensures.bytes found.0 found.1
+    c.in-Some.is c.in_ok-text.ensures.text in
+    taken listed name version c.as_bytes.result.now (arc_slice_items c.in-Some.text) c.args.table.now c.put.new.self c.is_sound.ensures c.as_bytes.ensures.bytes answer.0 answer.1
     c.in_ok-put-in-Some.ensures.ok

@@ -11,10 +11,10 @@ pub push_recorded-requires-clause-is : goal.push_recorded-requires-clause-is
 push_recorded-requires-clause-is c =
     let arch = c.args.table.now.arch in
     let faithful = subst (IsFaithfulSlot arch) c.in-Recorded.is c.requires.faithful in (
-      written c.in-Recorded.found,
-      subst (λ (text : List ℕ). IsStored arch text (as_stored (Recorded c.in-Recorded.found)))
+      written c.in-Recorded.entry,
+      subst (λ (text : List ℕ). IsStored arch text (as_stored (Recorded c.in-Recorded.entry)))
           (sym (c.in_ok-text_of-in-Recorded.ensures ∙ ap stanza_text c.stanza.ensures))
-          (faithful-stored arch (Recorded c.in-Recorded.found) faithful),
+          (faithful-stored arch (Recorded c.in-Recorded.entry) faithful),
       sym (c.in_ok-name-in-Recorded.ensures.items ∙ c.name.ensures.value),
     )
 
@@ -32,10 +32,10 @@ pub returns-in_ok-text_of-in-Recorded : goal.returns-in_ok-text_of-in-Recorded
 returns-in_ok-text_of-in-Recorded c =
     let arch = c.args.table.now.arch in
     let faithful = subst (IsFaithfulSlot arch) c.in-Recorded.is c.requires.faithful in
-    let stored = subst (λ (text : List ℕ). IsStored arch text (as_stored (Recorded c.in-Recorded.found)))
-    (sym (c.in_ok-text_of-in-Recorded.ensures ∙ ap stanza_text c.stanza.ensures)) (faithful-stored arch (Recorded c.in-Recorded.found) faithful) in
+    let stored = subst (λ (text : List ℕ). IsStored arch text (as_stored (Recorded c.in-Recorded.entry)))
+    (sym (c.in_ok-text_of-in-Recorded.ensures ∙ ap stanza_text c.stanza.ensures)) (faithful-stored arch (Recorded c.in-Recorded.entry) faithful) in
     subst (λ (slot : FileSlot). OnOk c.push_recorded.result (c.push_recorded.new.self ≡ record { arch = arch; slots = c.args.table.now.slots ++ as_stored slot ∷ [] }))
-    (sym c.in-Recorded.is) (c.push_recorded.ensures.ok (written c.in-Recorded.found) stored.read)
+    (sym c.in-Recorded.is) (c.push_recorded.ensures.ok (written c.in-Recorded.entry) stored.read)
 
 pub returns-in_ok-text_of-in-Foreign : goal.returns-in_ok-text_of-in-Foreign
 returns-in_ok-text_of-in-Foreign c =

@@ -8,7 +8,7 @@ use Rattle.status.proofs.touch.text_of_name.Goals as goal
 
 pub text_after-requires : goal.text_after-requires
 text_after-requires c =
-    sym (ready-some c.args.name.now (starts_from c.args.action) c.args.table.now.slots c.in-Some.found c.is_sound.ensures.distinct (sym c.in-Some.ensures))
+    sym (ready-some c.args.name.now (starts_from c.args.action) c.args.table.now.slots c.in-Some.entry c.is_sound.ensures.distinct (sym c.in-Some.ensures))
     ∙ c.requires
 
 pub unreachable-requires : goal.unreachable-requires
@@ -18,12 +18,12 @@ unreachable-requires c =
 pub returns : goal.returns
 returns c =
     let slots = c.args.table.now.slots in
-    let starts : starts_from c.args.action c.in-Some.found.found ≡ true =
-    sym (ready-some c.args.name.now (starts_from c.args.action) slots c.in-Some.found c.is_sound.ensures.distinct (sym c.in-Some.ensures)) ∙ c.requires in
+    let starts : starts_from c.args.action c.in-Some.entry.status ≡ true =
+    sym (ready-some c.args.name.now (starts_from c.args.action) slots c.in-Some.entry c.is_sound.ensures.distinct (sym c.in-Some.ensures)) ∙ c.requires in
     if-ok c.from_vec.result (λ text is. record {
-      old = c.in-Some.found;
+      old = c.in-Some.entry;
       there = sym c.in-Some.ensures;
       starts = starts;
-      text_is = after-text c.args.table.now.arch (arc_slice_items text) c.args.action c.in-Some.found starts
-          (named-good c.args.table.now.arch c.args.name.now slots c.in-Some.found c.is_sound.ensures.each (sym c.in-Some.ensures)) (is ∙ c.in_ok-text_after-in-Some.ensures);
+      text_is = after-text c.args.table.now.arch (arc_slice_items text) c.args.action c.in-Some.entry starts
+          (named-good c.args.table.now.arch c.args.name.now slots c.in-Some.entry c.is_sound.ensures.each (sym c.in-Some.ensures)) (is ∙ c.in_ok-text_after-in-Some.ensures);
     }) c.from_vec.ensures

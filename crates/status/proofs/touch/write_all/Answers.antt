@@ -51,7 +51,7 @@ loop-one-preserved c =
     let read = (subst (λ (kept : Store). IsTextOf kept.arch (arc_slice_items one.text) entry) (sym c.loop-one.invariant.1) after.text_is).read in
     let more : changed_slots (is_named name) (λ _. entry) (map as_stored (changed_slots (is_among names) change store.slots))
     ≡ map as_stored (changed_slots (is_among (names ++ name ∷ [])) change store.slots) =
-    changed-more name change after.old (is_among names) (is_among (names ++ name ∷ [])) (λ e _. keeps-name c.args.action e) (λ found. among-more names name found)
+    changed-more name change after.old (is_among names) (is_among (names ++ name ∷ [])) (λ e _. keeps-name c.args.action e) (λ other. among-more names name other)
     store.slots (found-only name after.old store.slots c.is_sound.ensures.distinct after.there) in (
       append_assoc front (one ∷ []) rest ∙ ap (λ xs. front ++ xs) (sym c.in-Some.ensures.steps.0) ∙ c.loop-one.invariant.0,
       c.write.ensures entry read

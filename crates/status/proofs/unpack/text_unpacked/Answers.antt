@@ -21,8 +21,8 @@ and-left : (a b : Bool) → (a && b) ≡ true → a ≡ true
 and-left true b h = refl
 and-left false b h = h
 
-pub returns-in_ok-from_vec-in-Some-clause-found : goal.returns-in_ok-from_vec-in-Some-clause-found
-returns-in_ok-from_vec-in-Some-clause-found c =
+pub returns-in_ok-from_vec-in-Some-clause-text : goal.returns-in_ok-from_vec-in-Some-clause-text
+returns-in_ok-from_vec-in-Some-clause-text c =
     let arch = c.args.table.now.arch in
     let name = c.args.name.now in
     let slots = c.args.table.now.slots in
@@ -35,11 +35,11 @@ returns-in_ok-from_vec-in-Some-clause-found c =
     let named : indexed.listed.pkg.name ≡ name =
     bytes_eq-true indexed.listed.pkg.name name (and-left (bytes_eq indexed.listed.pkg.name name) (is_eq (version_cmp indexed.listed.pkg.version c.args.version.now))
     (ap (is_indexed_as name c.args.version.now) (sym handed) ∙ passes)) in
-    let found : c.find-old.result ≡ entry_named name slots = c.find-old.ensures ∙ ap (λ n. entry_named n slots) c.as_bytes.ensures.bytes in
+    let old_is : c.find-old.result ≡ entry_named name slots = c.find-old.ensures ∙ ap (λ n. entry_named n slots) c.as_bytes.ensures.bytes in
     let is : text ≡ stanza_text (entry_over indexed (entry_named name slots)).stanza =
-    c.in_ok-from_vec-in-Some.ensures ∙ c.in_ok-text-in-Some.ensures ∙ ap (λ (old : Option FileRecord). stanza_text (entry_over indexed old).stanza) found in
-    let good : (entry : FileRecord) → entry_named name slots ≡ Some entry → (is_named indexed.listed.pkg.name entry.found ≡ true) × IsGood arch entry = λ entry there. (
-      bytes_eq-same entry.found.name indexed.listed.pkg.name (found-name name slots entry there ∙ sym named),
+    c.in_ok-from_vec-in-Some.ensures ∙ c.in_ok-text-in-Some.ensures ∙ ap (λ (old : Option FileRecord). stanza_text (entry_over indexed old).stanza) old_is in
+    let good : (entry : FileRecord) → entry_named name slots ≡ Some entry → (is_named indexed.listed.pkg.name entry.status ≡ true) × IsGood arch entry = λ entry there. (
+      bytes_eq-same entry.status.name indexed.listed.pkg.name (found-name name slots entry there ∙ sym named),
       named-good arch name slots entry c.is_sound.ensures.each there,
     ) in
     let text_is : IsTextOf arch text (written (entry_over indexed (entry_named name slots))) =

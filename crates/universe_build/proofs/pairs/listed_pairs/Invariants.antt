@@ -4,7 +4,7 @@ use Rattle.std.specs.Option.{option_copied}
 use Rattle.universe_build.specs.ByName.{listed_pairs}
 use Rattle.universe_build.proofs.pairs.listed_pairs.Given as goal
 
-abbrev pub invariant-loop-found : goal.invariant-loop-found
-invariant-loop-found l =
-    l.pairs.items ++ listed_pairs l.known (drop l.found-index l.ordered) (option_copied l.candidate) l.versions l.asked
+abbrev pub invariant-loop-stanza : goal.invariant-loop-stanza
+invariant-loop-stanza l =
+    l.pairs.items ++ listed_pairs l.known (drop l.stanza-index l.ordered) (option_copied l.candidate) l.versions l.asked
     ≡ listed_pairs l.known l.ordered (option_copied l.candidate) l.versions l.asked

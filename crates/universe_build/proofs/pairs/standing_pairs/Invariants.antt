@@ -3,6 +3,6 @@ use Rattle.std.proofs.Common.{◌≡◌, ◌++◌, drop}
 use Rattle.universe_build.specs.ByName.{standing_pairs}
 use Rattle.universe_build.proofs.pairs.standing_pairs.Given as goal
 
-abbrev pub invariant-loop-found : goal.invariant-loop-found
-invariant-loop-found l =
-    l.pairs.items ++ standing_pairs l.ordered (drop l.found-index l.known) ≡ standing_pairs l.ordered l.known
+abbrev pub invariant-loop-entry : goal.invariant-loop-entry
+invariant-loop-entry l =
+    l.pairs.items ++ standing_pairs l.ordered (drop l.entry-index l.known) ≡ standing_pairs l.ordered l.known

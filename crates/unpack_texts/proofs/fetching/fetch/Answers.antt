@@ -63,12 +63,12 @@ loop-next-preserved g c =
           let k = c.in_ok-reach.ensures.reached (items_in text) f.0 f.1 f.2 in
           let fetched = c.in_ok-text_reached.ensures.fetched (items_in text) k.0
           (subst (λ (place : IndexPlace). HasRead (items_in text) place.stanza c.reach.new.reader k.0) c.place-number.ensures k.2) in
-          let found = c.in_ok-text_reached.field-0 in
+          let own = c.in_ok-text_reached.field-0 in
           subst (λ (texts : List (List ℕ)). AreFetched c.args.arch.now (items_in text) shown texts)
           (sym (ap (λ (texts : List (Vec ℕ Global)). map (λ (one : Vec ℕ Global). one.items) texts ++ later) c.in_ok-push.ensures.items
-          ∙ one-mapped (λ (one : Vec ℕ Global). one.items) w.texts.items found later))
-          (w.invariant.so_far text (found.items ∷ later) known
-          (first-fetched c.args.arch.now (items_in text) (drop w.next-index shown) (drop (w.next-index + 1) shown) c.next-item.result.now found.items later e fetched are)));
+          ∙ one-mapped (λ (one : Vec ℕ Global). one.items) w.texts.items own later))
+          (w.invariant.so_far text (own.items ∷ later) known
+          (first-fetched c.args.arch.now (items_in text) (drop w.next-index shown) (drop (w.next-index + 1) shown) c.next-item.result.now own.items later e fetched are)));
       each = omega (arith, ap length c.in_ok-push.ensures.items, length_push w.texts.items c.in_ok-text_reached.field-0, w.invariant.each);
       sure = λ sure. (c.in_ok-reach.ensures.sure (w.invariant.sure sure)).0;
       count = search rules;

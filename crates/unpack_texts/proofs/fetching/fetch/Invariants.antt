@@ -12,7 +12,7 @@ invariant-loop-next g l = record {
       × HasRead (items_in text) l.at l.reader more;
   so_far : (text : List ℕ) (later : List (List ℕ)) → g.S.Source.left l.fn.source ≡ Some text
       → AreFetched l.arch (items_in text) (drop l.next-index (map (λ entry. entry.now) l.wanted)) later
-      → AreFetched l.arch (items_in text) (map (λ entry. entry.now) l.wanted) (map (λ found. found.items) l.texts.items ++ later);
+      → AreFetched l.arch (items_in text) (map (λ entry. entry.now) l.wanted) (map (λ own. own.items) l.texts.items ++ later);
   each : length l.texts.items ≡ l.next-index;
   sure : g.S.Source.is_sure l.fn.source ≡ true → g.S.Source.is_sure l.source ≡ true;
   count : g.S.Source.faults l.source ≡ g.S.Source.faults l.fn.source;

@@ -15,11 +15,11 @@ use Rattle.unpack_texts.proofs.FilledLemmas.{filled_then, take_both}
 use Rattle.unpack_texts.proofs.texts.fetch_all.Goals as goal
 
 -- what is refused of some of the stanzas is refused of all
-of_all : (arch : List ℕ) (found : ℕ → List ℕ → Found) (files : List (List ℕ)) (wanted : List WantedStanza) (at count : ℕ) (refused : Refusal)
-    → IsGroupRefusal arch found files (take count (drop at wanted)) refused → IsGroupRefusal arch found files wanted refused
-of_all arch found files wanted at count refused (inl memory) = inl memory
-of_all arch found files wanted at count refused (inr some) =
-    let P : WantedStanza → Type 0 = λ one. IsStanzaRefusal arch found files one.listed refused in
+of_all : (arch : List ℕ) (index_texts : ℕ → List ℕ → Found) (files : List (List ℕ)) (wanted : List WantedStanza) (at count : ℕ) (refused : Refusal)
+    → IsGroupRefusal arch index_texts files (take count (drop at wanted)) refused → IsGroupRefusal arch index_texts files wanted refused
+of_all arch index_texts files wanted at count refused (inl memory) = inl memory
+of_all arch index_texts files wanted at count refused (inr some) =
+    let P : WantedStanza → Type 0 = λ one. IsStanzaRefusal arch index_texts files one.listed refused in
     inr (subst (λ (l : List WantedStanza). Any P l) (take-append-drop at wanted) (Any-append_right P (take at wanted) (drop at wanted)
     (subst (λ (l : List WantedStanza). Any P l) (take-append-drop count (drop at wanted))
     (Any-append_left P (take count (drop at wanted)) (drop count (drop at wanted)) some))))

@@ -10,7 +10,7 @@ abbrev pub invariant-loop-at : goal.invariant-loop-at
 invariant-loop-at g l = record {
   within : l.at ≤ length l.wanted;
   size : length l.texts.items ≡ length l.fn.texts.items;
-  filled : (at : Shelved) → g.S.Shelf.found l.fn.shelf ≡ Some at
+  filled : (at : Shelved) → g.S.Shelf.known_texts l.fn.shelf ≡ Some at
       → IsFilled (Belongs l.arch at.index (map (λ file. file.now) l.files)) (take l.at l.wanted) l.fn.texts.items l.texts.items;
   read : IsReadBy g.S.Shelf l.fn.shelf (Ok l.texts) l.shelf;
 }

@@ -21,25 +21,25 @@ use Rattle.unpack_texts.proofs.WantedLemmas.{order_of_entries}
 use Rattle.unpack_texts.proofs.texts.fetch_group.Goals as goal
 
 -- what an opening gives of an index that has this file
-opened_at : (found : ℕ → List ℕ → Found) (files : List (List ℕ)) (number : ℕ) (file : List ℕ) → numbered number files ≡ Some file
-    → opened found files number ≡ found number file
-opened_at found files number file is = ap (option_and_then (found number)) is
+opened_at : (index_texts : ℕ → List ℕ → Found) (files : List (List ℕ)) (number : ℕ) (file : List ℕ) → numbered number files ≡ Some file
+    → opened index_texts files number ≡ index_texts number file
+opened_at index_texts files number file is = ap (option_and_then (index_texts number)) is
 
 -- no opening gives anything of one that has none
-opened_none : (found : ℕ → List ℕ → Found) (files : List (List ℕ)) (number : ℕ) → numbered number files ≡ None → opened found files number ≡ None
-opened_none found files number is = ap (option_and_then (found number)) is
+opened_none : (index_texts : ℕ → List ℕ → Found) (files : List (List ℕ)) (number : ℕ) → numbered number files ≡ None → opened index_texts files number ≡ None
+opened_none index_texts files number is = ap (option_and_then (index_texts number)) is
 
 -- each text belongs to the stanza in its place
-belong : (arch : List ℕ) (found : ℕ → List ℕ → Found) (files : List (List ℕ)) (number : ℕ) (bytes : List ℕ) (group : List WantedStanza) (texts : List (List ℕ))
-    → opened found files number ≡ Some bytes → AreOfIndex number group → AllZip (IsEnded arch (items_in bytes)) (map (λ one. one.listed) group) texts
-    → AllZip (Belongs arch found files) group texts
-belong arch found files number bytes [] [] there of_index fetched = tt
-belong arch found files number bytes [] (text ∷ texts) there of_index fetched = absurd fetched
-belong arch found files number bytes (one ∷ group) [] there of_index fetched = absurd fetched
-belong arch found files number bytes (one ∷ group) (text ∷ texts) there of_index fetched =
+belong : (arch : List ℕ) (index_texts : ℕ → List ℕ → Found) (files : List (List ℕ)) (number : ℕ) (bytes : List ℕ) (group : List WantedStanza) (texts : List (List ℕ))
+    → opened index_texts files number ≡ Some bytes → AreOfIndex number group → AllZip (IsEnded arch (items_in bytes)) (map (λ one. one.listed) group) texts
+    → AllZip (Belongs arch index_texts files) group texts
+belong arch index_texts files number bytes [] [] there of_index fetched = tt
+belong arch index_texts files number bytes [] (text ∷ texts) there of_index fetched = absurd fetched
+belong arch index_texts files number bytes (one ∷ group) [] there of_index fetched = absurd fetched
+belong arch index_texts files number bytes (one ∷ group) (text ∷ texts) there of_index fetched =
     let at : one.listed.place.index ≡ number = All-head (λ o. o.listed.place.index ≡ number) one group of_index in (
-      record { bytes = bytes; there = subst (λ (n : ℕ). opened found files n ≡ Some bytes) (sym at) there; fetched = fetched.0 },
-      belong arch found files number bytes group texts there (All-tail (λ o. o.listed.place.index ≡ number) one group of_index) fetched.1,
+      record { bytes = bytes; there = subst (λ (n : ℕ). opened index_texts files n ≡ Some bytes) (sym at) there; fetched = fetched.0 },
+      belong arch index_texts files number bytes group texts there (All-tail (λ o. o.listed.place.index ≡ number) one group of_index) fetched.1,
     )
 
 -- the file of a number, of lists that lend each other

@@ -23,9 +23,9 @@ returns c =
     let step = c.index-steps-before.result in
     let stop = c.requires.verdict.1 in
     found_at c.args.universe.now c.args.start.now c.in_ok-db.db c.args.steps.now c.args.number c.args.rule step
-    (option_copied c.stanza_at-listed.result) c.in_ok-found.found stop c.in_ok-db.ensures
+    (option_copied c.stanza_at-listed.result) c.in_ok-witness.witness stop c.in_ok-db.ensures
     (stanza_at_place c.args.universe.now c.args.steps.now c.as_slice-2.result.now (option_copied c.stanza_at-listed.result) _ step
     (c.as_slice-2.ensures.value ∙ c.in_ok-stanzas.ensures)
     (stop_within c.args.universe.now c.args.start.now c.args.steps.now c.args.number c.args.rule stop) c.stanza_at-listed.ensures)
-    (subst (λ (taken : Step). IsFoundOf (option_copied c.stanza_at-listed.result) c.in_ok-db.db taken c.args.rule c.in_ok-found.found)
-    c.index-steps-before.is c.in_ok-found.ensures)
+    (subst (λ (taken : Step). IsFoundOf (option_copied c.stanza_at-listed.result) c.in_ok-db.db taken c.args.rule c.in_ok-witness.witness)
+    c.index-steps-before.is c.in_ok-witness.ensures)

@@ -1,7 +1,7 @@
 -- What has the least name, and what is left behind it.
 use Rattle.std.proofs.Common.{◌+◌, ◌<◌, length, sym, ap, subst, ◌∙◌}
 use Rattle.std.specs.Option.{option_copied}
-use Rattle.candidates.specs.Names.{IsSplit, Names}
+use Rattle.candidates.specs.Names.{IsSplit, NameTable}
 use Rattle.candidates.proofs.NameSplit.{InOrder-kept, IsSplit-least, fewer_left, least_is, least_place, other_than, own_of, this}
 use Rattle.candidates.proofs.names.NamesLeft.split_first.Goals as goal
 
@@ -28,8 +28,8 @@ invariant_of-left c = rw (c.split_records.ensures.left, c.split_places.ensures.l
 
 pub returns-clause-split : goal.returns-clause-split
 returns-clause-split c =
-    let names : Names = record { known = c.self.inside.known.now; places = c.self.inside.places.now; ordered = c.self.inside.ordered.now } in
-    subst (λ (whole : Names). IsSplit whole
+    let names : NameTable = record { known = c.self.inside.known.now; places = c.self.inside.places.now; ordered = c.self.inside.ordered.now } in
+    subst (λ (whole : NameTable). IsSplit whole
     (own_of c.in_ok-name.name.now c.split_records.result.0.now c.split_places.result.0.now c.split_stanzas.result.0.now)
     (record { known = c.split_records.result.1.now; places = c.split_places.result.1.now; ordered = c.split_stanzas.result.1.now }))
     c.self.view_is
@@ -47,8 +47,8 @@ returns-clause-split c =
 
 pub returns-clause-fewer : goal.returns-clause-fewer
 returns-clause-fewer c =
-    let names : Names = record { known = c.self.inside.known.now; places = c.self.inside.places.now; ordered = c.self.inside.ordered.now } in
-    subst (λ (whole : Names). length c.split_records.result.1.now + length c.split_stanzas.result.1.now < length whole.known + length whole.ordered)
+    let names : NameTable = record { known = c.self.inside.known.now; places = c.self.inside.places.now; ordered = c.self.inside.ordered.now } in
+    subst (λ (whole : NameTable). length c.split_records.result.1.now + length c.split_stanzas.result.1.now < length whole.known + length whole.ordered)
     c.self.view_is
     (rw (c.split_records.ensures.left, c.split_stanzas.ensures.left)
     (fewer_left names c.in_ok-name.name.now

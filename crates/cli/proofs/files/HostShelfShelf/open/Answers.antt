@@ -7,4 +7,4 @@ pub returns-clause-text : goal.returns-clause-text
 returns-clause-text g c = holds_at (g.H.Host.files c.args.self.now.host.now) c.args.self.now.paths.now
     (λ at. IfOk c.open.result (λ text.
     (bytes : List ℕ) × (at.index c.args.number c.args.file.now ≡ Some bytes) × (g.H.Text.Source.left text ≡ Some bytes)))
-    c.open.ensures.found
+    c.open.ensures.text

@@ -4,6 +4,7 @@ use Rattle.cli.specs.Heard.{IsReplyOver}
 use Rattle.conversation.proofs.ConversationLemmas.{answered_so}
 use Rattle.inputs.proofs.ReadByLemmas.{none_read, then_wanting}
 use Rattle.inputs.specs.Texts.{texts_of}
+use Rattle.conversation.specs.Stream.{written_on}
 use Rattle.text_lines.specs.Lines.{left_of}
 use Rattle.cli.proofs.hearing.QuestionsQuestion.answer.Goals as goal
 
@@ -13,12 +14,12 @@ returns-clause-said g c = λ at known read.
     answered_so question_bytes (IsReplyOver c.args.before.now limit)
     (IsReplyToLine (texts_of c.args.before.now.settings.now at) limit)
     (λ line reply is. is (texts_of c.args.before.now.settings.now at) read)
-    (left_of g.T.Source.left c.args.talk.now.lines) (g.W.Write.contents c.args.talk.now.out.now)
-    (g.W.Write.contents c.answered.new.talk.out.now) c.answered.result c.answered.ensures.answered
+    (left_of g.T.Source.left c.args.talk.now.lines) (written_on g.W.Write.contents c.args.talk.now.out.now)
+    (written_on g.W.Write.contents c.answer_all.new.talk.out.now) c.answer_all.result c.answer_all.ensures.answered
 
 pub returns-clause-kept : goal.returns-clause-kept
 returns-clause-kept g c =
-    let answered = c.answered.ensures.answered in ((answered.0, answered.2), c.answered.ensures.held)
+    let answered = c.answer_all.ensures.answered in ((answered.0, answered.2), c.answer_all.ensures.held)
 
 pub returns-in_err-idle-clause-read : goal.returns-in_err-idle-clause-read
 returns-in_err-idle-clause-read g c = then_wanting c.from_residual-in_err-idle.result

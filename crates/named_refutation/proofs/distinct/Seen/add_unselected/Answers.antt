@@ -15,5 +15,5 @@ returns-clause-fresh c =
     let same : literal_by key ≡ Unselected pair = rw (c.as_bytes.ensures.bytes, c.as_bytes-2.ensures.bytes) refl in
     c.in_ok-insert.ensures.added
     ∙ ap not (any_seen key c.self.inside.keys.keys
-    ∙ ap (λ (found : NamedLiteral). list_any (is_same found) (map literal_by c.self.inside.keys.keys)) same
+    ∙ ap (λ (literal : NamedLiteral). list_any (is_same literal) (map literal_by c.self.inside.keys.keys)) same
     ∙ ap (list_any (is_same (Unselected pair))) c.self.view_is)

@@ -9,13 +9,13 @@ use Rattle.pins.proofs.prefs.Prefs.greatest.Goals as goal
 pub loop-origin-preserved : goal.loop-origin-preserved
 loop-origin-preserved c =
     let f = priority_by c.args.self.now c.args.version.now in
-    let found = c.loop-origin.greatest in
+    let earlier = c.loop-origin.greatest in
     let origins = c.args.origins.now in
     let i = c.loop-origin.origin-index in
     let item = c.origin-item.result in
     let kept : to_z w32 (of_z w32 c.greater.result) ≡ c.greater.result = to_z-of_z w32 c.greater.result (search rules) in
     let given : to_z w32 (of_z w32 c.priority_in.result) ≡ c.priority_in.result = to_z-of_z w32 c.priority_in.result (search rules) in
-    let value : c.greater.result ≡ greater found (f (get_or origins i item)) =
-    c.greater.ensures ∙ ap (greater found) (given ∙ c.priority_in.ensures ∙ ap f c.origin-item.is) in
+    let value : c.greater.result ≡ greater earlier (f (get_or origins i item)) =
+    c.greater.ensures ∙ ap (greater earlier) (given ∙ c.priority_in.ensures ∙ ap f c.origin-item.is) in
     rw kept (subst (λ (n : ℤ). IsGreatest n (map f (take (i + 1) origins))) (sym value)
-    (IsGreatest-more f found origins i item c.loop-origin-test.true c.loop-origin.invariant))
+    (IsGreatest-more f earlier origins i item c.loop-origin-test.true c.loop-origin.invariant))

@@ -7,17 +7,17 @@ use Rattle.plainness.proofs.LoopLemmas.{answers_no, fails, passed_all}
 use Rattle.plainness.proofs.PackageLemmas.{IsOtherMatch, IsUnmatched, matched_here, matched_nowhere}
 use Rattle.plainness.proofs.packages.Packages.have_match.Goals as goal
 
-pub returns-then-found : goal.returns-then-found
-returns-then-found c = (
+pub returns-then-matched : goal.returns-then-matched
+returns-then-matched c = (
   λ _. matched_here c.args.self.now c.args.name.now c.args.atoms.now c.loop-atom.atom-index c.atom-item.result c.loop-atom-test.true
-      c.atom-item.is (c.in_ok-found.ensures.0 c.if-found.true),
+      c.atom-item.is (c.in_ok-matched.ensures.0 c.if-matched.true),
   λ _. refl,
 )
 
 pub loop-atom-preserved : goal.loop-atom-preserved
 loop-atom-preserved c = All-more (IsUnmatched c.args.self.now c.args.name.now) c.args.atoms.now c.loop-atom.atom-index c.atom-item.result
     c.loop-atom-test.true c.loop-atom.invariant (subst (IsUnmatched c.args.self.now c.args.name.now) c.atom-item.is
-    (fails (Any (IsOtherMatch c.args.name.now c.atom-item.result) c.args.self.now) c.in_ok-found.found c.in_ok-found.ensures c.if-found.false))
+    (fails (Any (IsOtherMatch c.args.name.now c.atom-item.result) c.args.self.now) c.in_ok-matched.matched c.in_ok-matched.ensures c.if-matched.false))
 
 pub returns : goal.returns
 returns c = answers_no (IsMatchedByOther c.args.self.now c.args.name.now c.args.atoms.now)

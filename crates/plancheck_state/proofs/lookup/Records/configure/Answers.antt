@@ -9,12 +9,12 @@ use Rattle.plancheck_state.proofs.lookup.Records.configure.Goals as goal
 
 pub configure_one-requires-clause-distinct : goal.configure_one-requires-clause-distinct
 configure_one-requires-clause-distinct c = subst HasDistinctNames (sym c.loop-name.invariant)
-    (distinct-changed (is_among (take c.loop-name.name-index c.args.names.now)) configured c.args.self.now (λ found. refl) c.requires.distinct)
+    (distinct-changed (is_among (take c.loop-name.name-index c.args.names.now)) configured c.args.self.now (λ entry. refl) c.requires.distinct)
 
 pub configure_one-requires-clause-present : goal.configure_one-requires-clause-present
 configure_one-requires-clause-present c =
-    subst (λ name. All (λ (found : Record). is_named name found ≡ true → IsPresent found) c.loop-name.self) (sym c.as_bytes.ensures.bytes)
-    (subst (All (λ (found : Record). is_named c.name-item.result found ≡ true → IsPresent found)) (sym c.loop-name.invariant)
+    subst (λ name. All (λ (entry : Record). is_named name entry ≡ true → IsPresent entry) c.loop-name.self) (sym c.as_bytes.ensures.bytes)
+    (subst (All (λ (entry : Record). is_named c.name-item.result entry ≡ true → IsPresent entry)) (sym c.loop-name.invariant)
     (present-next c.args.names.now c.loop-name.name-index c.name-item.result c.args.self.now c.loop-name-test.true c.name-item.is
     c.requires.present))
 

@@ -12,18 +12,18 @@ invariant_of-self c =
     let name = c.args.name.now in
     let records = c.self.inside.records.items in
     subst (AreListed (places_in c.self.inside.places))
-    (sym (changed-at name configured records c.in-Some.place c.index.result.now c.configured.result
+    (sym (changed-at name configured records c.in-Some.place c.index.result.now c.after_configure.result
     (subst HasDistinctNames (sym c.self.view_is) c.requires.distinct)
-    (subst (λ db. IsPlaceOf name db c.in-Some.place) (sym c.self.view_is) c.in-Some.ensures) c.index.ensures c.configured.ensures))
-    (listed-changed (is_named name) configured records (places_in c.self.inside.places) (λ wanted found holds. holds) c.self.invariant)
+    (subst (λ db. IsPlaceOf name db c.in-Some.place) (sym c.self.view_is) c.in-Some.ensures) c.index.ensures c.after_configure.ensures))
+    (listed-changed (is_named name) configured records (places_in c.self.inside.places) (λ wanted entry holds. holds) c.self.invariant)
 
 pub returns-in-Some : goal.returns-in-Some
 returns-in-Some c =
     let name = c.args.name.now in
     let records = c.self.inside.records.items in
-    changed-at name configured records c.in-Some.place c.index.result.now c.configured.result
+    changed-at name configured records c.in-Some.place c.index.result.now c.after_configure.result
     (subst HasDistinctNames (sym c.self.view_is) c.requires.distinct)
-    (subst (λ db. IsPlaceOf name db c.in-Some.place) (sym c.self.view_is) c.in-Some.ensures) c.index.ensures c.configured.ensures
+    (subst (λ db. IsPlaceOf name db c.in-Some.place) (sym c.self.view_is) c.in-Some.ensures) c.index.ensures c.after_configure.ensures
     ∙ ap (changed (is_named name) configured) c.self.view_is
 
 pub returns-in-None : goal.returns-in-None

@@ -24,7 +24,7 @@ returns-in-Some c =
     c.remove.ensures.items
     ∙ purged-at name c.self.inside.records.items c.in-Some.place (subst HasDistinctNames (sym c.self.view_is) c.requires)
     (subst (λ db. IsPlaceOf name db c.in-Some.place) (sym c.self.view_is) c.in-Some.ensures)
-    ∙ ap (filter (λ found. not (is_named name found))) c.self.view_is
+    ∙ ap (filter (λ entry. not (is_named name entry))) c.self.view_is
 
 pub returns-in-None : goal.returns-in-None
 returns-in-None c = kept-nowhere c.args.name.now c.args.self.now c.in-None.ensures

@@ -27,7 +27,7 @@ pub invariant_of-self-in-Err : goal.invariant_of-self-in-Err
 invariant_of-self-in-Err c =
     let places = c.as_slice.result.now in
     let up : IsAscending places = subst IsAscending (sym c.as_slice.ensures.value) c.self.invariant in
-    let found = searched places c.args.place (Err c.in-Err.at) c.in-Err.ensures.position (never-falls places up) in
+    let position = searched places c.args.place (Err c.in-Err.at) c.in-Err.ensures.position (never-falls places up) in
     subst IsAscending (sym c.in_ok-insert-in-Err.ensures.items)
     (subst (λ (xs : List ℕ). IsAscending (insert xs c.in-Err.at c.args.place)) c.as_slice.ensures.value
-    (inserted-ascends places c.in-Err.at c.args.place up found.0 found.1 found.2))
+    (inserted-ascends places c.in-Err.at c.args.place up position.0 position.1 position.2))

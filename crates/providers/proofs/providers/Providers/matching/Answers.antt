@@ -20,11 +20,11 @@ meeting-requires c =
 pub returns-clause-matching : goal.returns-clause-matching
 returns-clause-matching c = of_value c.ordered_places.result
     (λ places same place.
-    let found = found_match c.args.self.now _ c.self.inside.offers.items c.as_slice.result.now c.self.invariant.0 c.self.view_is c.as_slice.ensures.value
+    let both = found_match c.args.self.now _ c.self.inside.offers.items c.as_slice.result.now c.self.invariant.0 c.self.view_is c.as_slice.ensures.value
     c.args.atom.now c.run_at-run.result.now c.meeting.result.now
     (c.run_at-run.ensures ∙ ap (λ (name : List ℕ). filter (is_offer_of name) c.as_slice.result.now) c.name.ensures)
     c.meeting.ensures.meeting (sym c.is_foreign.ensures ∙ c.if-is_foreign.false) place in
-    (λ within. found.0 ((same place).0 within), λ matches. (same place).1 (found.1 matches))) c.ordered_places.ensures.same
+    (λ within. both.0 ((same place).0 within), λ matches. (same place).1 (both.1 matches))) c.ordered_places.ensures.same
 
 pub returns-clause-counted : goal.returns-clause-counted
 returns-clause-counted c = λ d short.

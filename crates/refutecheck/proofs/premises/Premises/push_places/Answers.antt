@@ -16,7 +16,7 @@ loop-place-preserved c = one_place_more (packages_of c.args.self.now.pairs) (IsS
 
 pub returns : goal.returns
 returns c =
-    let Over : List ℕ → Type 0 = λ places. (found : Literal) → Contains c.loop-place.literals.items found
-    ↔ (Contains c.args.literals.now.items found
-    ⊎ Any (λ place. IsSelectedAt (packages_of c.args.self.now.pairs) (IsSought c.args.sought) place found) places) in
+    let Over : List ℕ → Type 0 = λ places. (literal : Literal) → Contains c.loop-place.literals.items literal
+    ↔ (Contains c.args.literals.now.items literal
+    ⊎ Any (λ place. IsSelectedAt (packages_of c.args.self.now.pairs) (IsSought c.args.sought) place literal) places) in
     subst Over (take_all c.loop-place.place-index c.args.places.now c.loop-place-test.false) c.loop-place.invariant

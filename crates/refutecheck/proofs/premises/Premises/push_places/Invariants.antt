@@ -8,5 +8,5 @@ use Rattle.refutecheck.specs.Sought.{IsSelectedAt, IsSought}
 use Rattle.refutecheck.proofs.premises.Premises.push_places.Given as goal
 
 abbrev pub invariant-loop-place : goal.invariant-loop-place
-invariant-loop-place l = (found : Literal) → Contains l.literals.items found ↔ (Contains l.fn.literals.items found
-    ⊎ Any (λ place. IsSelectedAt (packages_of l.self.pairs) (IsSought l.sought) place found) (take l.place-index l.places))
+invariant-loop-place l = (literal : Literal) → Contains l.literals.items literal ↔ (Contains l.fn.literals.items literal
+    ⊎ Any (λ place. IsSelectedAt (packages_of l.self.pairs) (IsSought l.sought) place literal) (take l.place-index l.places))

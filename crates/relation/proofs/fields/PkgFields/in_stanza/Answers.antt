@@ -5,5 +5,5 @@ use Rattle.relation.proofs.fields.PkgFields.in_stanza.Goals as goal
 
 pub loop-field-preserved : goal.loop-field-preserved
 loop-field-preserved c =
-    c.add.ensures ∙ ap (λ found. with_field found c.in-Some.field) c.loop-field.invariant
+    c.add.ensures ∙ ap (λ pkg_fields. with_field pkg_fields c.in-Some.field) c.loop-field.invariant
     ∙ sym (fields_more c.args.stanza.now.line c.loop-field.yielded c.in-Some.field)

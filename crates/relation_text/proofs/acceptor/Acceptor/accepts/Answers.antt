@@ -3,8 +3,8 @@ use Rattle.std.proofs.lemmas.Bool.Decides.{nat_tests}
 use Rattle.relation_text.specs.Place.{is_end}
 use Rattle.relation_text.specs.Quick.{place_of, quick_accepts, quick_after, state_of}
 use Rattle.relation_text.specs.Refusal.{most_atoms}
-use Rattle.relation_text.specs.declared.quick.State.TheVariants.{At}
-use Rattle.relation_text.specs.declared.shape.Place.TheVariants.{Between}
+use Rattle.relation_text.specs.declared.quick.QuickState.TheVariants.{At}
+use Rattle.relation_text.specs.declared.shape.ShapePlace.TheVariants.{Between}
 use Rattle.relation_text.proofs.QuickAtoms.{accepted}
 use Rattle.relation_text.proofs.QuickNumbers.{state_back}
 use Rattle.relation_text.proofs.acceptor.Acceptor.accepts.Goals as goal

@@ -1,9 +1,9 @@
 -- One look is one step of the quick reading.
 use Rattle.std.proofs.Common.{sym, ap, ◌∙◌, ◌<◌, arith, get_or, take}
 use Rattle.relation_text.specs.Quick.{number_of, quick_after}
-use Rattle.relation_text.specs.declared.quick.State.{State}
-use Rattle.relation_text.specs.declared.quick.State.TheVariants.{At}
-use Rattle.relation_text.specs.declared.shape.Place.TheVariants.{Between}
+use Rattle.relation_text.specs.declared.quick.QuickState.{QuickState}
+use Rattle.relation_text.specs.declared.quick.QuickState.TheVariants.{At}
+use Rattle.relation_text.specs.declared.shape.ShapePlace.TheVariants.{Between}
 use Rattle.relation_text.proofs.QuickNumbers.{looked_up, quick_after-more}
 use Rattle.relation_text.proofs.acceptor.Acceptor.number_after.Goals as goal
 
@@ -14,4 +14,4 @@ loop-byte-preserved c =
     let small : get_or value c.loop-byte.byte-index 0 < 256 = omega (arith, c.type_inv.value c.loop-byte.byte-index) in
     looked_up c.args.form c.table_of-table.result.now state c.loop-byte.number (get_or value c.loop-byte.byte-index 0)
     c.table_of-table.ensures c.loop-byte.invariant small
-    ∙ ap (λ (s : State). number_of s) (sym (quick_after-more c.args.form (At Between) value c.loop-byte.byte-index c.loop-byte-test.true))
+    ∙ ap (λ (s : QuickState). number_of s) (sym (quick_after-more c.args.form (At Between) value c.loop-byte.byte-index c.loop-byte-test.true))

@@ -13,7 +13,7 @@ loop-place-preserved c =
     let there : slice_get old.order c.loop-place.place ≡ Some c.in-Some.number = sym c.in-Some.ensures.value in
     let within : c.loop-place.place < length old.order = slice_get_within old.order c.loop-place.place c.in-Some.number there in
     let few : c.loop-place.place < 2 ^ 63 = c.in-Some.ensures.few in (
-      c.in_ok-expand.ensures.found,
+      c.in_ok-expand.ensures.members,
       extends_further c.args.self.now old new c.loop-place.invariant.1 c.in_ok-expand.ensures.extends,
       more_have c.args.given.now (holds c.args.set.now.items) old new c.loop-place.place c.in-Some.number c.in_ok-expand.ensures.extends within
           (get_or_from_slice_get old.order c.loop-place.place c.in-Some.number 0 there) c.loop-place.invariant.2 c.in_ok-expand.ensures.has,

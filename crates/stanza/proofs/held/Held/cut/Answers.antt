@@ -5,11 +5,11 @@ use Rattle.stanza.specs.Streamed.{FindsAhead}
 use Rattle.stanza.proofs.HeldLemmas.{moved, stanza-gives, total-moved}
 use Rattle.stanza.proofs.held.Held.cut.Goals as goal
 
-pub returns-clause-found : goal.returns-clause-found
-returns-clause-found c =
+pub returns-clause-cut : goal.returns-clause-cut
+returns-clause-cut c =
     let held = c.skip_gap.new.self in
     let pending : c.pending-text.result.now ≡ pending_of held = c.pending-text.ensures in
-    let finds = subst (λ (text : List ℕ). FindsAhead c.args.is_over c.args.form (held.before + 1) text c.stanza_ahead.new.starts.items c.in_ok-ahead.field-0) pending c.in_ok-ahead.ensures.found in
+    let finds = subst (λ (text : List ℕ). FindsAhead c.args.is_over c.args.form (held.before + 1) text c.stanza_ahead.new.starts.items c.in_ok-ahead.field-0) pending c.in_ok-ahead.ensures.ahead in
     stanza-gives c.args.self.now held _ c.in-Some.ahead c.in_ok-ahead.field-0 c.stanza_ahead.new.starts.items c.args.is_over c.args.form c.in-Some.is finds c.skip_gap.ensures.read c.skip_gap.ensures.total
     (record { bytes = refl; size = refl; end = refl; begin = refl; before = refl; room = refl })
 

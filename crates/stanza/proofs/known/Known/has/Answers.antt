@@ -19,4 +19,4 @@ pub returns-clause-has : goal.returns-clause-has
 returns-clause-has c =
     let names = map (name_at c.args.done.now) c.args.starts.now in
     let all : length names ≤ c.note_all.new.self.noted = omega (arith, length-map c.args.starts.now (name_at c.args.done.now), c.in_ok-note_all.ensures.all) in
-    subst (λ found. IfOk c.has.result (λ has. has ≡ found)) (HasNames-all c.note_all.new.self names c.in_ok-note_all.ensures.known all c.args.name.now) c.has.ensures
+    subst (λ is_there. IfOk c.has.result (λ has. has ≡ is_there)) (HasNames-all c.note_all.new.self names c.in_ok-note_all.ensures.known all c.args.name.now) c.has.ensures

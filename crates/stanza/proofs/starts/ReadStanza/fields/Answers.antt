@@ -2,7 +2,7 @@
 use Rattle.std.proofs.Common.{List, map, sym, ap, subst, ◌∙◌}
 use Rattle.stanza.specs.Stanza.{StanzaText}
 use Rattle.stanza.specs.Starts.{AreWithin, field_at}
-use Rattle.stanza.specs.declared.starts.Start.{Start}
+use Rattle.stanza.specs.declared.starts.FieldStart.{FieldStart}
 use Rattle.stanza.proofs.StartsLemmas.{fields-at}
 use Rattle.stanza.proofs.WithinLemmas.{within-at}
 use Rattle.stanza.proofs.starts.ReadStanza.fields.Goals as goal
@@ -13,5 +13,5 @@ invariant_of-result c =
 
 pub returns : goal.returns
 returns c =
-    ap (λ (starts : List Start). map (field_at c.self.inside.raw.now) starts) c.self.invariant.1
+    ap (λ (starts : List FieldStart). map (field_at c.self.inside.raw.now) starts) c.self.invariant.1
     ∙ fields-at c.self.inside.form c.self.inside.line c.self.inside.raw.now ∙ ap (λ (s : StanzaText). s.fields) c.self.view_is

@@ -16,7 +16,7 @@ returns-in-Some c =
     let at = subst (FindsAt name places) (sym c.in-Some.ensures) (found-at (λ key. key.items) name places c.self.inside.numbers.entries c.self.invariant.0.0) in
     c.record_at.ensures
     ∙ (λ i. entry_at (slice_get (slots_read (c.as_slice.ensures.value i) (texts_in (λ t. arc_slice_items t) (c.as_slice-in-Some.ensures.value i))) c.in-Some.place))
-    ∙ ap entry_at at.there ∙ sym at.found ∙ ap (λ (store : Store). entry_named name store.slots) c.self.view_is
+    ∙ ap entry_at at.there ∙ sym at.entry_is ∙ ap (λ (store : Store). entry_named name store.slots) c.self.view_is
 
 pub returns-in-None : goal.returns-in-None
 returns-in-None c =

@@ -27,7 +27,7 @@ invariant_of-self-2 c =
     let count : c.len.result ≡ length texts = c.len.ensures ∙ c.in_ok-reserve.ensures.len ∙ c.self.inside.places.ok.0 ∙ sym (texts-length (λ t. arc_slice_items t) places) in
     let entries = c.in_ok-insert.ensures.entries ∙ insert_entry-new _ c.self.inside.numbers c.args.name c.len.result none in
     let items = c.in-Ok.ensures.items ∙ ap (λ xs. xs ++ Some c.args.text ∷ []) c.in_ok-reserve.ensures.items in
-    let pushed : names_in c.insert.new.self.entries ≡ names_in es ++ (entry.found.name, length texts) ∷ [] =
+    let pushed : names_in c.insert.new.self.entries ≡ names_in es ++ (entry.status.name, length texts) ∷ [] =
     ap names_in entries ∙ map-append (λ pair. (pair.0.items, pair.1)) es ((c.args.name, c.len.result) ∷ [])
     ∙ (λ i. names_in es ++ (sym c.requires.is.2 i, count i) ∷ []) in
     subst (IsTextTable arch (names_in c.insert.new.self.entries)) (sym (ap (texts_in (λ t. arc_slice_items t)) items ∙ texts-behind (λ t. arc_slice_items t) places c.args.text))

@@ -25,7 +25,7 @@ returns-in-Some-clause-ok c entry read =
     let places = slots_read c.self.inside.arch.items (texts_in (λ t. arc_slice_items t) c.self.inside.places.items) in
     let at = subst (FindsAt name places) (sym c.in-Some.ensures) (found-at (λ key. key.items) name places c.self.inside.numbers.entries c.self.invariant.0.0) in
     let has : has_name name slots ≡ true =
-    found-has_name name slots at.entry (ap (λ (store : Store). entry_named name store.slots) (sym c.self.view_is) ∙ at.found) in
+    found-has_name name slots at.entry (ap (λ (store : Store). entry_named name store.slots) (sym c.self.view_is) ∙ at.entry_is) in
     c.write.ensures entry read ∙ (λ i. record {
       arch = c.args.self.now.arch;
       slots = if sym has i then changed_slots (is_named name) (λ _. entry) slots else slots ++ Recorded entry ∷ [];

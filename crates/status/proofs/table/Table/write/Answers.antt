@@ -55,7 +55,7 @@ returns c entry read =
     let texts = texts_in (λ t. arc_slice_items t) c.self.inside.places.items in
     let at = subst (FindsAt name (slots_read arch texts)) (sym c.in-Some.ensures) (found-at (λ key. key.items) name (slots_read arch texts) es c.self.invariant.0.0) in
     let here : alone arch (arc_slice_items c.args.text) ≡ Some (Recorded entry) = ap (λ (store : Store). alone store.arch (arc_slice_items c.args.text)) c.self.view_is ∙ read in
-    let named : entry.found.name ≡ name = ap (λ (e : FileRecord). e.found.name) (same-entry entry c.requires.0 (sym read ∙ c.requires.1.read)) ∙ c.requires.2 in
+    let named : entry.status.name ≡ name = ap (λ (e : FileRecord). e.status.name) (same-entry entry c.requires.0 (sym read ∙ c.requires.1.read)) ∙ c.requires.2 in
     let left = ap (λ t. slots_at (slots_read arch t)) (in-places (λ t. arc_slice_items t) c.self.inside.places.items c.in-Some.place (Some c.args.text))
     ∙ slots-written arch name (names_in es) texts c.self.invariant c.in-Some.place at (arc_slice_items c.args.text) entry here named in
     (λ i. record { arch = arch; slots = left i })

@@ -3,8 +3,8 @@ use Rattle.std.proofs.Common.{rules, ◌≡◌, List, ℕ, Option, None, Some, t
 use Rattle.std.proofs.lemmas.Bool.{cond-true}
 use Rattle.test_program.proofs.judging.OneFileHost.open.Goals as goal
 
-pub returns-clause-found : goal.returns-clause-found
-returns-clause-found c at is =
+pub returns-clause-text : goal.returns-clause-text
+returns-clause-text c at is =
     let same : bytes_eq c.args.path.now c.args.self.now.path.now ≡ true = search rules in (
       c.args.self.now.text.now,
       sym (ap (λ (o : Option (List ℕ → Option (List ℕ))). unwrap_or o (λ path. None) c.args.path.now) is)

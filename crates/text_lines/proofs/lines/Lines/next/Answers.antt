@@ -5,7 +5,7 @@ use Rattle.std.proofs.lemmas.List.{length-append}
 use Rattle.std.proofs.lemmas.List.Elements.{All-append}
 use Rattle.text_lines.specs.Lines.{left_of}
 use Rattle.text_lines.specs.Piece.{Goes}
-use Rattle.text_lines.specs.declared.piece.Step.{Step}
+use Rattle.text_lines.specs.declared.piece.LineState.{LineState}
 use Rattle.text_lines.proofs.HeardLemmas.{Consumes-no_more, Consumes-waiting}
 use Rattle.text_lines.proofs.lines.Lines.next.Goals as goal
 
@@ -14,7 +14,7 @@ returns-in-TooLong-clause-heard g c =
     let left = g.T.Source.left in
     let line = c.loop-line.line.items in
     let read = c.read_on.new.self in
-    let goes = subst (λ (step : Step). Goes c.args.most line c.go_on.new.line.items read.block c.go_on.new.block step) c.in-TooLong.is c.in_ok-go_on.ensures in
+    let goes = subst (λ (step : LineState). Goes c.args.most line c.go_on.new.line.items read.block c.go_on.new.block step) c.in-TooLong.is c.in_ok-go_on.ensures in
     let front = goes.0 in
     let taken = Consumes-no_more (left_of left c.args.self.now) (left_of left c.loop-line.self) (left_of left read) line c.loop-line.invariant.taken c.in_ok-read_on.ensures.left in (
       line ++ front,

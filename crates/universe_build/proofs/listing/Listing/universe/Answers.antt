@@ -27,7 +27,7 @@ returns-then-is_too_large-clause-err c = λ start indices prefs is. (
 pub returns-clause-ok : goal.returns-clause-ok
 returns-clause-ok c = λ start indices prefs is.
     let made : asked_of c.args.self.now.admitted (goals_of c.args.goals.items) ≡ c.new.result =
-    rw (c.new.ensures, c.in_ok-shared.ensures, c.in_ok-goals.ensures) refl in
+    rw (c.new.ensures, c.in_ok-share.ensures, c.in_ok-goals.ensures) refl in
     subst (IsBuilt start indices prefs c.args.goals.items c.args.self.now.asks_all_versions) made (record {
       known = unknown_among start indices prefs c.args.self.now c.self.inside.names (ap (λ (l : Listing). l.names) c.self.view_is) is
           c.as_slice.result.now c.args.goals.items c.as_slice.ensures.value None c.in_default.ensures;

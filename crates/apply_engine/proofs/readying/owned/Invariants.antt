@@ -1,5 +1,0 @@
-use Rattle.std.proofs.Common.{◌≡◌, map, take}
-use Rattle.apply_engine.proofs.readying.owned.Given as goal
-
-abbrev pub invariant-loop-name : goal.invariant-loop-name
-invariant-loop-name l = map (λ name. name.items) l.owned.items ≡ map (λ name. name.now) (take l.name-index l.names)

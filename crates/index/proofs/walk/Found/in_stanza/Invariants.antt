@@ -1,7 +1,0 @@
--- What was found so far is what is found among the fields so far.
-use Rattle.std.proofs.Common.{◌≡◌}
-use Rattle.index.specs.Walk.{found_in}
-use Rattle.index.proofs.walk.Found.in_stanza.Given as goal
-
-abbrev pub invariant-loop-field : goal.invariant-loop-field
-invariant-loop-field l = l.found ≡ found_in l.stanza.line l.yielded

@@ -1,0 +1,6 @@
+-- The steps so far are a run.
+use Rattle.forward_steps.specs.PartialPlan.{IsReached}
+use Rattle.order.proofs.enabling.remove_some_old.Given as goal
+
+abbrev pub invariant-loop-rank : goal.invariant-loop-rank
+invariant-loop-rank l = IsReached l.problem l.plan

@@ -1,6 +1,0 @@
--- The steps so far are a run.
-use Rattle.forward_steps.specs.Door.{IsReached}
-use Rattle.order.proofs.way.pull_first.Given as goal
-
-abbrev pub invariant-loop-name : goal.invariant-loop-name
-invariant-loop-name l = IsReached l.ground l.door

@@ -1,5 +1,0 @@
-use Rattle.part.proofs.PremiseLemmas.{choice_of_part}
-use Rattle.part.proofs.laws.choice_of_part.Goals as goal
-
-pub returns : goal.returns
-returns c = choice_of_part

@@ -1,5 +1,0 @@
-use Rattle.part.proofs.ClauseLemmas.{clauses_of_part}
-use Rattle.part.proofs.laws.clauses_of_part.Goals as goal
-
-pub returns : goal.returns
-returns c = clauses_of_part

@@ -1,5 +1,0 @@
-use Rattle.part.proofs.NeededLemmas.{part_has_needed_pairs}
-use Rattle.part.proofs.laws.part_has_needed_pairs.Goals as goal
-
-pub returns : goal.returns
-returns c = part_has_needed_pairs

@@ -1,5 +1,0 @@
-use Rattle.part.proofs.SelectedLemmas.{part_is_acceptable}
-use Rattle.part.proofs.laws.part_is_acceptable.Goals as goal
-
-pub returns : goal.returns
-returns c = part_is_acceptable

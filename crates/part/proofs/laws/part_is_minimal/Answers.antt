@@ -1,5 +1,0 @@
-use Rattle.part.proofs.MinimalLemmas.{part_is_minimal}
-use Rattle.part.proofs.laws.part_is_minimal.Goals as goal
-
-pub returns : goal.returns
-returns c = part_is_minimal

@@ -1,5 +1,0 @@
-use Rattle.part.proofs.SelectedLemmas.{part_selects_the_same}
-use Rattle.part.proofs.laws.part_selects_the_same.Goals as goal
-
-pub returns : goal.returns
-returns c = part_selects_the_same

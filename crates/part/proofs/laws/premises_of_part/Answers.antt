@@ -1,5 +1,0 @@
-use Rattle.part.proofs.PremiseLemmas.{premises_of_part}
-use Rattle.part.proofs.laws.premises_of_part.Goals as goal
-
-pub returns : goal.returns
-returns c = premises_of_part

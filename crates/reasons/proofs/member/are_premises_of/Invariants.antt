@@ -1,7 +1,0 @@
--- The premises so far are among the others.
-use Rattle.std.proofs.Common.{take}
-use Rattle.explain.specs.Needed.{ArePremisesOf}
-use Rattle.reasons.proofs.member.are_premises_of.Given as goal
-
-abbrev pub invariant-loop-line : goal.invariant-loop-line
-invariant-loop-line l = ArePremisesOf (take l.line-index l.lines) l.others

@@ -1,0 +1,3 @@
+pub mod Journals
+pub mod Lines
+pub mod Texts

@@ -1,0 +1,4 @@
+pub mod CoreLemmas
+pub mod GrowLemmas
+pub mod SelectedLemmas
+pub mod TruthLemmas
