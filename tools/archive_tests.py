@@ -8,6 +8,7 @@ import sys
 import tempfile
 
 import cluster_tests
+import migration_tests
 import pages_tests
 import surveys
 from common import Failure
@@ -25,14 +26,33 @@ for word in [it for it in words if it.startswith("--") and "=" in it]:
     words[words.index(word):words.index(word) + 1] = word.split("=", 1)
 def value(name, default=None):
     return words[words.index(name) + 1] if name in words else default
-def checked(line):
-    for it in stanzas:
-        if line == f"{{it['Package']}} {{it['Version']}} needs {{it.get('Depends')}}\\n":
-            pair, text = {{"number": 1, "name": it["Package"], "version": it["Version"]}}, it.get("Depends")
-            why = f"{{it['Package']}} {{it['Version']}} depends on {{text}}, but it isn't there."
-            return dict(answer="yes", text="yes\\n", reasons=[why],
-                        lines=[{{"line": 1, "premise": "depends", "pair": pair, "text": text}}])
-    return dict(answer="no", text="no line 1\\n", reasons=[], lines=[])
+def failing(it):
+    for number, clause in enumerate(common.clauses_in(it, "Depends"), 1):
+        if not any(common.matches(other, atom) for other in good for atom in clause):
+            others = [other for other in stanzas if any(common.matches(other, atom) for atom in clause)]
+            return [(it, number), *(failing(others[0]) if others else ())]
+def refutation_of(it):
+    lines = ["goal 1", *(f"depends {{it['Package']}} {{it['Version']}} {{number}}" for it, number in failing(it))]
+    lines.append(f"derive : {{' '.join(str(number) for number in range(1, len(lines) + 1))}}")
+    return "".join(f"{{line}}\\n" for line in ["refutation 2", *lines, f"end {{len(lines)}}"])
+def premise_of(line):
+    name, version, number = line.split()[1:]
+    fields = [it for it in stanzas if (it["Package"], it["Version"]) == (name, version)][0]
+    pair, text = {{"number": 1, "name": name, "version": version}}, common.written(common.clauses_in(fields, "Depends")[int(number) - 1])
+    return {{"line": 1, "premise": "depends", "pair": pair, "text": text}}
+def sentence_on(premise):
+    pair, text = premise["pair"], premise["text"]
+    found = [it for it in stanzas if any(common.matches(it, atom) for clause in common.clauses_of(text) for atom in clause)]
+    end = f" (that is {{found[0]['Package']}} {{found[0]['Version']}})." if found else ", but it isn't there."
+    return f"{{pair['name']}} {{pair['version']}} depends on {{text}}{{end}}"
+def checked(text):
+    try:
+        premises = [premise_of(line) for line in text.splitlines() if line.startswith("depends ")]
+    except IndexError:
+        premises = []
+    if not premises:
+        return dict(answer="no", text="no line 1\\n", reasons=[], lines=[])
+    return dict(answer="yes", text="yes\\n", reasons=[sentence_on(it) for it in premises], lines=premises)
 def solved(goals):
     found = chosen(list(common.clauses_of(goals[0].split("\\n")[0].removeprefix("install "))), [])
     steps = [{{"action": "unpack", "name": it["Package"], "version": it["Version"], **dict.fromkeys(("filename", "size", "sha256"))}}
@@ -69,7 +89,9 @@ told = [(surveys.Line("broken", it["Package"], it["Version"]), it) for it in ask
 for line, it in told if value("--refutations") else ():
     place = f"{{value('--refutations')}}/{{surveys.file_name(line)}}"
     open(f"{{place}}.request", "w").write(f"install {{it['Package']}} (= {{it['Version']}})\\n")
-    open(f"{{place}}.refutation", "w").write(f"{{surveys.written(line)}} needs {{it.get('Depends')}}\\n")
+    open(f"{{place}}.refutation", "w").write(refutation_of(it))
+for line, it in told if "--explain" in words else ():
+    sys.stderr.write("\\n".join([f"{{surveys.written(line)}}:", *checked(refutation_of(it))["reasons"], ""]))
 survey = surveys.Survey(None, [line for line, _ in told], len(asked))
 print(survey.text(), end="")
 sys.exit(survey.status())
@@ -366,6 +388,7 @@ def tried_by(program):
         write_files(room, program)
         yield from (fails(room, call) for call in CALLS)
         yield from (differs(room, *it) for it in WRITTEN.items())
+        yield from migration_tests.tried_in(room)
         yield from cluster_tests.tried_in(room)
         yield from pages_tests.tried_in(room)
 

@@ -66,6 +66,12 @@ class Asking:
         found.options = [option for option in self.options if option[0] != "--refutations"]
         return found
 
+    def explained(self):
+        """The same words, which ask for sentences too."""
+        found = Asking(["--", *self.names])
+        found.options = [*self.options, *([] if self.has("--explain") else [("--explain", None)])]
+        return found
+
     def over(self, sources, names=()):
         """The words that ask about these names, or all, with another sources file, and write no refutations."""
         found = self.without_refutations()

@@ -6,12 +6,14 @@ import sys
 import tempfile
 
 import common
-import debplan
 import differences
 import exchange
+import failing
+import groups
 import reports
 import shards
 import surveys
+from along import LATER, Along, told
 from asking import NO_STATUS, refutations_of
 from common import Failure
 
@@ -19,6 +21,12 @@ from common import Failure
 NAMES_BYTES = 500_000
 # How often it is asked what has to come along with what has to come along.
 ROUNDS = 10
+# Where it is asked about more groups than so many, which takes minutes, that is said.
+MANY = 100
+# How many of the relations are told at which a group fails.
+RELATIONS = 3
+# Why a package is broken that isn't explained.
+BESIDE = "beside the base, which is newly broken"
 # The index of the other suite stands beside the new one with a priority of 1, and has no host that a pin names.
 BELOW = {"NotAutomatic": "yes", "Host": "not-wished-for.invalid"}
 
@@ -27,13 +35,22 @@ def note(line):
     print(f"{common.tool_name()}: {line}", file=sys.stderr, flush=True)
 
 
+class Known:
+    """What checks have found that needn't be asked again: what was said before an exchange of these names, by the names; and what helps a
+    package that fails at these relations, by both. Where no plan helps it, none does where more is exchanged."""
+
+    def __init__(self):
+        self.surveys, self.helps = {}, {}
+
+
 class Check:
     """The packages that can have changed by an exchange, and how they are asked about, before it and after it. The index that would be
-    stands in the file `output`. What was said before an exchange of these names is known, where it was asked for by another check."""
+    stands in the file `output`. What another check has found is known."""
 
     def __init__(self, options, changed, output, known=None):
-        self.options, self.changed, self.output, self.known = options, changed, output, {} if known is None else known
+        self.options, self.changed, self.output, self.known = options, changed, output, known or Known()
         self.asking, self.arch = options.asking, options.asking.needed("--arch")
+        self.status = common.Database(self.asking.value("--status") or NO_STATUS)
         self.sources = list(common.stanzas_in(self.asking.needed("--sources")))
         others = [path for path in self.places() if not self.is_changed(path)]
         if len(others) == len(self.places()):
@@ -54,9 +71,8 @@ class Check:
 
     def changing(self, exchanged):
         """The names of packages that can have changed; None where these are all, or too many to be named."""
-        status = common.Database(self.asking.value("--status") or NO_STATUS)
-        stanzas = [*self.before, *self.after, *status.records.values()]
-        names, base = exchange.Needs(stanzas).reaching(exchanged), exchange.staying_in(status)
+        stanzas = [*self.before, *self.after, *self.status.records.values()]
+        names, base = exchange.Needs(stanzas).reaching(exchanged), exchange.staying_in(self.status)
         if not self.asking.has("--without-essential"):
             base |= {fields["Package"] for fields in stanzas if exchange.is_essential(fields)}
         if names & base:
@@ -67,24 +83,27 @@ class Check:
         return names if few else None
 
     def survey(self, sources, stanzas, folder=None):
-        """What is said of the packages that can have changed, with these indices and their stanzas; None where there are none of them."""
+        """What is said of the packages that can have changed, with these indices and their stanzas; None where there are none of them.
+        With a folder for the refutations the sentences are asked for too."""
         names = [] if self.names is None else sorted(self.names & {fields["Package"] for fields in stanzas})
         if not names and self.names is not None:
             return None
-        return shards.asked(self.asking.over(sources, names).words(), self.options.processors, folder)
+        asking = self.asking.over(sources, names)
+        return shards.asked((asking.explained() if folder else asking).words(), self.options.processors, folder)
 
     def survey_before(self):
         """What is said of them before the exchange."""
         names = None if self.names is None else frozenset(self.names)
-        if names not in self.known:
-            self.known[names] = self.survey(self.asking.value("--sources"), self.before)
-        return self.known[names]
+        if names not in self.known.surveys:
+            self.known.surveys[names] = self.survey(self.asking.value("--sources"), self.before)
+        return self.known.surveys[names]
 
     def difference(self, sources, folder):
-        """What is said after the exchange, with this sources file, and not before it; the refutations are put into a folder."""
-        old, new = self.survey_before(), self.survey(sources, self.after, folder)
+        """What is said after the exchange, with this sources file, and not before it, and the sentences on that; the refutations are put
+        into a folder."""
+        old, new = beside(self.survey_before(), self.survey(sources, self.after, folder))
         pairs = (set(map(exchange.pair_of, stanzas)) for stanzas in (self.before, self.after))
-        return surveys.compared(*beside(old, new), *pairs)
+        return surveys.compared(old, new, *pairs), new.sentences
 
     def sources_after(self):
         """The stanzas of the sources file, with the new index in the place of the old one."""
@@ -97,11 +116,51 @@ class Check:
         write_stanzas(sources, self.sources_after())
         write_stanzas(both, [*self.sources_after(), {"File": self.options.other, **BELOW}])
         with refutations_of(self.asking, True) as folder:
-            difference = self.difference(str(sources), folder)
-            with reports.Judge(self.asking.over(str(sources))) as judge, reports.Judge(self.asking.over(str(both))) as helper:
-                along = Along(helper, folder, self)
-                reasons = {line: [*judge.reasons_of(folder, line), *along.sentences(line)] for line in differences.explained(difference)}
-            return difference, reasons, along.found
+            difference, sentences = self.difference(str(sources), folder)
+            reader = groups.Reader(folder, sentences, [*self.after, *self.status.records.values()])
+            found = reader.groups_of(differences.explained(difference))
+            if len(found) > MANY:
+                note(f"what is newly broken fails in {len(found)} ways: a package of each is asked about")
+            with reports.Judges(self.asking.over(str(both)), self.options.processors) as judges:
+                return Answer(difference, sentences, Along(judges, folder, self).for_each(found))
+
+
+class Answer:
+    """What a check has found: what differs, why packages are broken, in sentences, and what would have to come along, for each group of
+    those that are explained."""
+
+    def __init__(self, difference, sentences, helped):
+        self.difference, self.sentences, self.helped = difference, sentences, helped
+        self.help = {line: found for group, found in helped for line in group.lines}
+        self.others = dict.fromkeys(line for line in differences.newly_broken(difference) if line not in self.help)
+
+    def causes(self):
+        """Why each package is newly broken, to be compared: the relations at which it fails, or else its sentences; nothing of one that
+        isn't explained. One that wasn't asked about isn't among them."""
+        found = {line: frozenset(group.relations or self.sentences.get(line, ())) for group, helped in self.helped if helped.said != LATER
+                 for line in group.lines}
+        return {**dict.fromkeys(self.others, frozenset()), **found}
+
+    def sources(self):
+        """The sources that would have to come along."""
+        return set().union(*(found.sources for _, found in self.helped))
+
+    def reasons(self, line):
+        """What is told below a package that is newly broken: why, and what would have to come along; nothing below another one."""
+        if line not in self.help:
+            return [BESIDE] if line in self.others else []
+        return [*self.sentences.get(line, ["nothing says why"]), *told(self.help[line], line)]
+
+    def groups(self):
+        """The lines of each group, with what is told of all of them; last those that aren't explained, beside a base that is."""
+        found = [(group.lines, [*written(group.relations), *told(helped, None)]) for group, helped in self.helped]
+        return [*found, (list(self.others), [BESIDE])]
+
+
+def written(relations):
+    """The relations of a group as texts, of which the first are told."""
+    found = [failing.written(relation, "") for relation in relations]
+    return [*found[:RELATIONS], *([f"and {len(found) - RELATIONS} more"] if len(found) > RELATIONS else [])]
 
 
 def write_stanzas(path, stanzas):
@@ -114,43 +173,7 @@ def beside(old, new):
     return old or none, new or none
 
 
-# What would have to come along
-
-
-class Along:
-    """What a plan for a broken package takes of the other index, where this stands beside the new one and isn't wished for: `found` are
-    the sources. It is what one plan takes, and perhaps not the least."""
-
-    def __init__(self, judge, folder, check):
-        self.judge, self.folder, self.found = judge, folder, set()
-        has = set(map(exchange.pair_of, check.after))
-        others = {exchange.pair_of(fields): fields for fields in check.counting(check.changed.other)}
-        self.others = {pair: exchange.source_version_of(fields) for pair, fields in others.items() if pair not in has}
-
-    def sentences(self, line):
-        """What would have to come along for a package in this version, or else in another one, as a sentence; none where nothing helps."""
-        for request in self.requests(line):
-            answer = self.judge.solved([*request, "all-versions"], surveys.written(line))
-            if isinstance(answer, debplan.Undecided):
-                return [f"what would have to come along is undecided ({answer.why})"]
-            if isinstance(answer, debplan.Plan):
-                return self.needed(answer.steps)
-        return []
-
-    def requests(self, line):
-        """The lines of the request that was refuted, and of the same one for any version of the package."""
-        path = pathlib.Path(self.folder, f"{surveys.file_name(line)}.request")
-        if not path.is_file():
-            return []
-        first, *rest = reports.read(path).splitlines()
-        return [[first, *rest], [f"install {line.name}", *rest]] if line.version else [[first, *rest]]
-
-    def needed(self, steps):
-        """The sentence on the sources of what the steps take of the other index."""
-        pairs = [exchange.pair_of({"Package": it.name, "Version": it.version}) for it in steps if isinstance(it, debplan.Unpack)]
-        needed = sorted({self.others[pair] for pair in pairs if pair in self.others})
-        self.found |= {name for name, _ in needed}
-        return [f"needs {', '.join(f'{name} {version}' for name, version in needed)}"] if needed else []
+# Telling
 
 
 def tell(check):
@@ -158,11 +181,12 @@ def tell(check):
     again, until nothing more would have to. Returns the exit status of the exchange that was asked for."""
     with tempfile.TemporaryDirectory(prefix="debplan-exchange-") as folder:
         room = pathlib.Path(folder)
-        difference, told, along = check.answer(room)
-        status = differences.tell(difference, told)
+        answer = check.answer(room)
+        status = differences.tell(answer.difference, answer.reasons, answer.groups())
+        known, along = answer.causes(), answer.sources()
         more, rounds = along, 0
         while more and rounds < ROUNDS:
-            more, rounds = tell_with(check, along, told, room) - along, rounds + 1
+            more, rounds = tell_with(check, along, known, room) - along, rounds + 1
             along = along | more
     if along:
         print(f"would have to come along: {' '.join(sorted(along))}")
@@ -171,15 +195,16 @@ def tell(check):
     return status
 
 
-def tell_with(check, along, told, room):
-    """Prints what is newly broken where these sources are exchanged too, but for what was told already, with the same reasons. Returns
-    which sources would have to come along then."""
+def tell_with(check, along, known, room):
+    """Prints what is newly broken where these sources are exchanged too, but for what is known to be so for the same cause. Returns which
+    sources would have to come along then."""
     changed, output = check.changed.also(along), room / "index"
     common.write_text(output, changed.text().decode("utf-8", "surrogateescape"))
-    (found, _), reasons, more = Check(check.options, changed, output, check.known).answer(room)
-    broken = {kind: [line for line in found[kind] if reasons.get(line) != told.get(line)] for kind in ("newly broken", "came broken")}
+    answer = Check(check.options, changed, output, check.known).answer(room)
+    found, causes = answer.difference[0], answer.causes()
+    broken = {kind: [line for line in found[kind] if line not in known or causes.get(line) != known[line]] for kind in differences.BROKEN}
     if any(broken.values()):
         print(f"with {' '.join(sorted(along))}:")
-        differences.tell_kinds(broken, reasons)
-    told.update(reasons)
-    return more
+        differences.tell_kinds(broken, answer.reasons, answer.groups())
+    known.update({line: cause for line, cause in causes.items() if cause or line not in known})
+    return answer.sources()

@@ -1,7 +1,9 @@
 """Refutations of broken packages: judged, explained, and put into folders that say over which indices they are. The options with which
 they are judged are those of an `Asking` of tools/archive-check."""
+import concurrent.futures
 import dataclasses
 import pathlib
+import queue
 import time
 from collections import namedtuple
 
@@ -9,6 +11,7 @@ import common
 import debplan
 import exchange
 import failing
+import premises
 import surveys
 from common import Failure
 
@@ -18,8 +21,6 @@ INDICES = FILES[-1]
 # The files that stand beside these folders, the last of which is written last: where it is there, the report is whole.
 SURVEY, WHEN = "survey", "when"
 REFUSED = (3, 4, 5)
-# The first line of a refutation whose pairs are named, which may have lines for indices behind it.
-NAMED = "refutation 2"
 # What check-refutation says of a refutation, its sentences, and the relations at which the package fails.
 Verdict = namedtuple("Verdict", "said sentences relations")
 # An index: the SHA256 of its file, and its release keys and its path as the sources file has them.
@@ -76,6 +77,37 @@ class Judge:
         """The answer to the request of these lines."""
         with common.ending(f"{place}: "):
             return self.resolver.solve(*lines)
+
+
+class Judges:
+    """So many judges over the same inputs, each of which answers one question at a time."""
+
+    def __init__(self, asking, count):
+        self.judges = [Judge(asking) for _ in range(count)]
+
+    def __enter__(self):
+        return self
+
+    def __exit__(self, *_):
+        for judge in self.judges:
+            judge.__exit__()
+
+    def asked(self, question, things):
+        """What a question about each of these things, of a judge and of the thing, is answered; in their order."""
+        # (that which was used last is used next: the others need not read their inputs where there are few questions)
+        idle = queue.LifoQueue()
+        for judge in self.judges:
+            idle.put(judge)
+
+        def ask(thing):
+            judge = idle.get()
+            try:
+                return question(judge, thing)
+            finally:
+                idle.put(judge)
+
+        with concurrent.futures.ThreadPoolExecutor(len(self.judges)) as pool:
+            return list(pool.map(ask, things))
 
 
 def premises_of(verdict):
@@ -159,7 +191,9 @@ def stanzas_of(paths, lines, arch):
 def with_indices(refutation, indices):
     """A refutation with lines for the indices that it is about (docs/FORMATS.md, section 10)."""
     head, _, lines = refutation.partition("\n")
-    return f"{head}\n" + "".join(f"index {index.sum} {index.path}\n" for index in indices) + lines if head == NAMED else refutation
+    if head != premises.NAMED:
+        return refutation
+    return f"{head}\n" + "".join(f"index {index.sum} {index.path}\n" for index in indices) + lines
 
 
 def write_folder(folder, files, verdict, more):

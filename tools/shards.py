@@ -156,6 +156,7 @@ class Shard:
             raise Refused(said, status)
         try:
             self.survey = survey_by(status, printed, self.name)
+            self.survey.sentences = surveys.sentences_in(said, self.survey)
         except Failure as failure:
             if self.runs > 1:
                 raise Failure("\n".join([f"{failure}, for the second time", *said.splitlines()]), LAST) from None
@@ -211,7 +212,8 @@ class Progress:
 
 def asked(words, count, folder=None, place=None):
     """The survey of the whole that `installable` prints with these words, from so many shards, with the refutations in a folder, where
-    one is named. They are run on this machine, or at another place. What one of them refuses is refused, and the others are ended."""
+    one is named. They are run on this machine, or at another place. What one of them refuses is refused, and the others are ended. It has
+    the sentences where the words ask for them by `--explain`."""
     place = place or Here()
     shards = [Shard(number, count, words, folder, place) for number in range(1, count + 1)]
     run_all(shards, place)

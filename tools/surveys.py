@@ -37,10 +37,10 @@ def file_name(line):
 
 class Survey:
     """What is said of the packages that were asked about: the state of the base, where it isn't installable, the lines of packages,
-    and how many packages were asked about."""
+    and how many packages were asked about; and, where that was asked for, why they are broken, in sentences, by their lines."""
 
-    def __init__(self, base, lines, count):
-        self.base, self.lines, self.count = base, lines, count
+    def __init__(self, base, lines, count, sentences=None):
+        self.base, self.lines, self.count, self.sentences = base, lines, count, sentences or {}
 
     def told(self):
         """The lines, that on the base first."""
@@ -94,6 +94,18 @@ def survey_in(path):
     return survey_of(text_in(path), path)
 
 
+def sentences_in(said, survey):
+    """The sentences that `--explain` has on standard error, beside what was printed, by the lines of the packages that they are on."""
+    headings = {f"{written(line)}:": line for line in survey.told()}
+    found, told = {}, []
+    for sentence in common.without_unmatched(said.splitlines()):
+        if sentence in headings:
+            told = found[headings[sentence]] = []
+        else:
+            told.append(sentence)
+    return found
+
+
 # All shards
 
 
@@ -108,7 +120,8 @@ def merged(shards, places):
     lines = list(heapq.merge(*numbered))
     total = sum(shard.count for shard in shards)
     check_places(lines, total, places)
-    return Survey(shards[0].base, [line for _, _, line in lines], total)
+    sentences = {line: told for shard in shards for line, told in shard.sentences.items()}
+    return Survey(shards[0].base, [line for _, _, line in lines], total, sentences)
 
 
 def check_sizes(shards, places):
