@@ -21,6 +21,8 @@ from common import Failure
 NAMES_BYTES = 500_000
 # How often it is asked what has to come along with what has to come along.
 ROUNDS = 10
+# Where more sources than so many would have to come along, that isn't asked any more: they bring most of the other suite with them.
+SOURCES = 300
 # Where it is asked about more groups than so many, which takes minutes, that is said.
 MANY = 100
 # How many of the relations are told at which a group fails.
@@ -72,11 +74,11 @@ class Check:
     def changing(self, exchanged):
         """The names of packages that can have changed; None where these are all, or too many to be named."""
         stanzas = [*self.before, *self.after, *self.status.records.values()]
-        names, base = exchange.Needs(stanzas).reaching(exchanged), exchange.staying_in(self.status)
+        names, self.base = exchange.Needs(stanzas).reaching(exchanged), exchange.staying_in(self.status)
         if not self.asking.has("--without-essential"):
-            base |= {fields["Package"] for fields in stanzas if exchange.is_essential(fields)}
-        if names & base:
-            note(f"{min(names & base)} stands beside each package, and can have changed: all packages are asked about")
+            self.base |= {fields["Package"] for fields in stanzas if exchange.is_essential(fields)}
+        if names & self.base:
+            note(f"{min(names & self.base)} stands beside each package, and can have changed: all packages are asked about")
             return None
         few = sum(len(name) + 1 for name in names) <= NAMES_BYTES
         note(f"{len(names)} names can have changed: {'their' if few else 'all'} packages are asked about")
@@ -98,10 +100,27 @@ class Check:
             self.known.surveys[names] = self.survey(self.asking.value("--sources"), self.before)
         return self.known.surveys[names]
 
+    def survey_of_base(self, name, sources, folder=None):
+        """What is said of the base with these indices, beside one package of it."""
+        asking = self.asking.over(sources, [name])
+        found = shards.asked((asking.explained() if folder else asking).words(), 1, folder)
+        return surveys.Survey(found.base, [], 0, found.sentences)
+
+    def surveys(self, sources, folder):
+        """What is said before the exchange and after it. Where the base is newly broken nothing can be installed beside it, and it alone is
+        asked about."""
+        base = self.base.intersection(*({fields["Package"] for fields in stanzas} for stanzas in (self.before, self.after)))
+        if self.names is None and base:
+            old, new = self.survey_of_base(min(base), self.asking.value("--sources")), self.survey_of_base(min(base), sources, folder)
+            if new.base == "broken" != old.base:
+                note("the base is newly broken: no package is asked about beside it")
+                return old, new
+        return beside(self.survey_before(), self.survey(sources, self.after, folder))
+
     def difference(self, sources, folder):
         """What is said after the exchange, with this sources file, and not before it, and the sentences on that; the refutations are put
         into a folder."""
-        old, new = beside(self.survey_before(), self.survey(sources, self.after, folder))
+        old, new = self.surveys(sources, folder)
         pairs = (set(map(exchange.pair_of, stanzas)) for stanzas in (self.before, self.after))
         return surveys.compared(old, new, *pairs), new.sentences
 
@@ -178,21 +197,28 @@ def beside(old, new):
 
 def tell(check):
     """Has it asked what changes by an exchange, and prints that. Then what would have to come along is exchanged too, and it is asked
-    again, until nothing more would have to. Returns the exit status of the exchange that was asked for."""
+    again, until nothing more would have to, or why_over says why not. Returns the exit status of the exchange that was asked for."""
     with tempfile.TemporaryDirectory(prefix="debplan-exchange-") as folder:
         room = pathlib.Path(folder)
         answer = check.answer(room)
         status = differences.tell(answer.difference, answer.reasons, answer.groups())
         known, along = answer.causes(), answer.sources()
         more, rounds = along, 0
-        while more and rounds < ROUNDS:
+        while more and not why_over(rounds, len(along)):
             more, rounds = tell_with(check, along, known, room) - along, rounds + 1
             along = along | more
     if along:
         print(f"would have to come along: {' '.join(sorted(along))}")
     if more:
-        note(f"after {ROUNDS} rounds still more would have to come along")
+        note(why_over(rounds, len(along)))
     return status
+
+
+def why_over(rounds, count):
+    """Why it isn't asked any more what has to come along with so many sources, behind so many rounds; None where it is."""
+    if count > SOURCES:
+        return f"more than {SOURCES} sources would have to come along: what comes along with these isn't asked"
+    return f"after {ROUNDS} rounds still more would have to come along" if rounds >= ROUNDS else None
 
 
 def tell_with(check, along, known, room):

@@ -11,6 +11,7 @@ import premises
 import surveys
 # (behind these, by which the module of Python is found)
 import along
+import migration
 from trials import fails
 
 # Keeps what is asked of `debplan batch`.
@@ -52,6 +53,15 @@ PARTS = [
     ({"c": ["other"]}, ["b", "c"], ["a", "d"]),
     ({"d": ["other"]}, ["b", "c", "a", "d"], []),
 ]
+# Rounds and sources, and why it isn't asked any more behind them what has to come along.
+ENDS = [
+    (0, 300, None),
+    (9, 1, None),
+    (10, 1, "after 10 rounds still more would have to come along"),
+    (0, 301, "more than 300 sources would have to come along: what comes along with these isn't asked"),
+]
+# What is said of the base before an exchange and after it, and whether it alone is asked about.
+BASES = [(None, "broken", True), ("undecided", "broken", True), ("broken", "broken", False), (None, None, False), (None, "undecided", False)]
 # What is told of more packages than have a line each.
 GROUPED = """newly broken base
   why
@@ -73,6 +83,8 @@ def tried_in(room):
     yield from (asks_otherwise(room, row[:-1], row[-1]) for row in ASKED)
     yield tells_otherwise()
     yield from (asks_about_others(*row) for row in PARTS)
+    yield from (ends_otherwise(*row) for row in ENDS)
+    yield from (asks_beside_base(*row) for row in BASES)
 
 
 def write_files(room):
@@ -134,6 +146,44 @@ def asks_about_others(needed, wanted, left):
     finally:
         along.PART = before
     return None if (judges.seen, told) == (wanted, left) else f"{judges.seen} are asked about and {told} left, and not {wanted} and {left}"
+
+
+def ends_otherwise(rounds, count, wanted):
+    """Why it isn't asked any more, or is asked, where that isn't as it is wanted."""
+    found = migration.why_over(rounds, count)
+    return None if found == wanted else f"behind {rounds} rounds, with {count} sources, it is said {found}, and not {wanted}"
+
+
+class Asking:
+    """Stands for how the program is asked, where its answers are given."""
+
+    def value(self, _):
+        return "sources"
+
+    def over(self, *_):
+        return self
+
+    def explained(self):
+        return self
+
+    def words(self):
+        return []
+
+
+def asks_beside_base(was, now, alone):
+    """Why packages are asked about beside this base, or aren't, where that isn't as it is wanted."""
+    check, asked = object.__new__(migration.Check), migration.shards.asked
+    check.names, check.base, check.asking = None, {"base"}, Asking()
+    check.before = check.after = [{"Package": "base", "Version": "1"}]
+    check.survey_before, check.survey = (lambda *_, state=state: surveys.Survey(state, lines_of("a", 1), 1) for state in (was, now))
+    migration.shards.asked = lambda words, count, folder=None: surveys.Survey(now if folder else was, [], 1)
+    try:
+        with contextlib.redirect_stderr(io.StringIO()):
+            said = check.surveys("sources", "folder")
+    finally:
+        migration.shards.asked = asked
+    found = [it.base for it in said], not any(it.lines for it in said)
+    return None if found == ([was, now], alone) else f"with a base that is {was} and then {now}, {found} is said"
 
 
 def name_of(group):

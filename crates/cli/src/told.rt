@@ -76,17 +76,17 @@ fn tell_place(
     notes: &mut Notes,
 ) -> Result<(), AllocError> {
     match place {
-        Input::Status => tell_file(alloc, "The status file", paths.status, notes),
-        Input::Sources => tell_file(alloc, "The sources file", paths.sources, notes),
+        Input::Status => tell_file(alloc, "Status file", paths.status, notes),
+        Input::Sources => tell_file(alloc, "Sources file", paths.sources, notes),
         Input::Preferences => tell_file(
             alloc,
-            "The preferences file",
+            "Preferences file",
             paths.preferences.unwrap_or(""),
             notes,
         ),
         Input::Request => tell_request(alloc, paths.request, notes),
-        Input::Plan => tell_text(alloc, "The plan", paths.judged, notes),
-        Input::Refutation => tell_text(alloc, "The refutation", paths.judged, notes),
+        Input::Plan => tell_text(alloc, "Plan", paths.judged, notes),
+        Input::Refutation => tell_text(alloc, "Refutation", paths.judged, notes),
         Input::Index(number) => tell_index(alloc, number, context, notes),
         Input::Version(_) | Input::Memory => Ok(()),
     }
@@ -94,9 +94,9 @@ fn tell_place(
 
 // Tells the path of a file.
 fn tell_file(alloc: Global, name: &str, path: &str, notes: &mut Notes) -> Result<(), AllocError> {
-    notes.add(format!(in alloc; "{name} is ")?.as_bytes())?;
+    notes.add(format!(in alloc; "{name}: ")?.as_bytes())?;
     tell_printed(alloc, path.as_bytes(), notes)?;
-    notes.add(b".\n")
+    notes.add(b"\n")
 }
 
 // Tells the path of a text, which may be that of standard input.
@@ -110,8 +110,8 @@ fn tell_text(alloc: Global, name: &str, path: &str, notes: &mut Notes) -> Result
 
 fn tell_request(alloc: Global, place: TextAt<'_>, notes: &mut Notes) -> Result<(), AllocError> {
     match place {
-        TextAt::File(path) => tell_text(alloc, "The request", path, notes),
-        TextAt::Given(_) => tell_file(alloc, "The request", "what --goal says", notes),
+        TextAt::File(path) => tell_text(alloc, "Request", path, notes),
+        TextAt::Given(_) => tell_file(alloc, "Request", "what --goal says", notes),
     }
 }
 
@@ -121,9 +121,9 @@ fn tell_index(
     context: &RefusalContext,
     notes: &mut Notes,
 ) -> Result<(), AllocError> {
-    notes.add(format!(in alloc; "Index {number} is ")?.as_bytes())?;
+    notes.add(format!(in alloc; "Index {number}: ")?.as_bytes())?;
     tell_printed(alloc, context.index.as_slice(), notes)?;
-    notes.add(b".\n")
+    notes.add(b"\n")
 }
 
 // Tells what may help.
@@ -182,7 +182,7 @@ fn tell_line(
     text: &[u8],
     notes: &mut Notes,
 ) -> Result<(), AllocError> {
-    notes.add(format!(in alloc; "Line {number} is: ")?.as_bytes())?;
+    notes.add(format!(in alloc; "Line {number}: ")?.as_bytes())?;
     tell_printed(alloc, line_at(text, number), notes)?;
     notes.add(b"\n")
 }

@@ -2,9 +2,10 @@
 // the form of that of `apt-cache policy`.
 
 use crate::pinned::{is_among, is_of_target, takes_release, takes_status, takes_version};
-use crate::words::{push_count, push_priority, push_word};
+use crate::words::push_word;
 use debversion::Version;
 use index::Index;
+use phrases::{push_count, push_priority};
 use pins::{Origin, Prefs};
 use rules::{Pin, PinnedNames, Preference, Release, Text};
 use status_text::StatusRecord;

@@ -1,4 +1,5 @@
 pub mod CoreLemmas
 pub mod GrowLemmas
+pub mod LineLemmas
 pub mod SelectedLemmas
 pub mod TruthLemmas

@@ -143,6 +143,14 @@ abbrev pub IsBasis : Universe → List Line → Basis → Type 0
 IsBasis u lines basis = Contains lines (line.Premise basis.premise.now) × IsPremise u basis.premise.now
     × IsListOf (IsInPremise u basis.premise.now) basis.clause
 
+-- one of these is the basis of the premise
+abbrev pub HasBasis : Premise → List Basis → Type 0
+HasBasis claim bases = (basis : Basis) × Contains bases basis × (basis.premise.now ≡ claim)
+
+-- one of these lines tells the premise
+abbrev pub HasSentence : Universe → Premise → List (List ℕ) → Type 0
+HasSentence u claim said = (one : List ℕ) × Contains said one × IsSentence u claim one
+
 -- the line tells a premise of the universe that is among these lines
 abbrev pub TellsPremise : Universe → List Line → List ℕ → Type 0
 TellsPremise u lines said = (claim : Premise) × Contains lines (line.Premise claim) × IsPremise u claim × IsSentence u claim said
@@ -171,7 +179,9 @@ abbrev pub closing_words : Bool → List ℕ
 closing_words all_versions =
     codes "This is about the admitted versions: of each package the installed one" ++ versions_words all_versions
 
--- the text is lines that are truthful, and which versions are admitted
-abbrev pub AreSentences : Universe → List Line → Bool → List ℕ → Type 0
-AreSentences u lines all_versions text = (said : List (List ℕ))
-    × (text ≡ flat_map (λ one. one) said ++ closing_words all_versions) × AreTruthful u lines said
+-- the text is lines that are truthful and tell each premise of the universe that is among these lines, and which versions are admitted
+pub record AreSentences (u : Universe) (lines : List Line) (all_versions : Bool) (text : List ℕ) : Type 0 where
+  pub said : List (List ℕ)
+  pub written : text ≡ flat_map (λ one. one) said ++ closing_words all_versions
+  pub truthful : AreTruthful u lines said
+  pub told : (claim : Premise) → Contains lines (line.Premise claim) → IsPremise u claim → HasSentence u claim said

@@ -188,23 +188,21 @@ fn tell_opposed(
     Ok(told.saturating_add(1))
 }
 
-/// Puts behind the lines one for each alternative of a dependency that one pair alone can satisfy, where another premise speaks against
-/// that pair: the highest version of an index that would do too and isn't admitted, and why it isn't; of so many dependencies at most.
-/// Memory alone can fail. Linear in the premises, and in the stanzas for each alternative.
-pub(crate) fn tell_instead(
+/// A line, once, for each alternative of a dependency that one pair alone can satisfy, where another premise speaks against that pair: the
+/// highest version of an index that would do too and isn't admitted, and why it isn't; of so many dependencies at most. Memory alone can
+/// fail. Linear in the premises, and in the stanzas for each alternative.
+pub(crate) fn instead_of(
     context: &Context<'_, '_, '_, '_, '_>,
-    lines: &mut IndexSet<Vec<u8>>,
     bases: &[Basis<'_>],
-) -> Result<(), AllocError>
-    ensures { OnOk result
-        ((u : Universe) (told : List Line)
-        → Spec.AreTruthful u told (map (λ key. key.items) lines.old.keys)
-        → Spec.AreTruthful u told (map (λ key. key.items) lines.new.keys)) }
+) -> Result<IndexSet<Vec<u8>>, AllocError>
+    ensures { IfOk result (λ lines. (u : Universe) (told : List Line)
+        → Spec.AreTruthful u told (map (λ key. key.items) lines.keys)) }
 {
     let opposed = opposed_by(context.alloc(), bases)?;
+    let mut lines = IndexSet::new(context.alloc());
     let mut told = 0usize;
     for basis in bases {
-        told = tell_opposed(context, lines, &opposed, basis, told)?;
+        told = tell_opposed(context, &mut lines, &opposed, basis, told)?;
     }
-    Ok(())
+    Ok(lines)
 }

@@ -1,17 +1,14 @@
 // Sentences for the premises of a refutation.
 
-ghost use Rattle.std.specs.Prelude.{◌≡◌, ◌++◌, IfOk, OnOk, List, map, slice_get};
-ghost use Rattle.std.specs.List.{All, flat_map};
+ghost use Rattle.std.specs.Prelude.{◌≡◌, ◌↔◌, ◌⊎◌, ◌++◌, ℕ, IfOk, OnOk, List, map, slice_get};
+ghost use Rattle.std.specs.List.{All, Contains, flat_map};
 ghost use Rattle.std.specs.Option.{option_copied};
-ghost use Rattle.refutation.specs.Clause.{IsListOf};
-ghost use Rattle.refutation.specs.Premise.{IsInPremise};
-ghost use Rattle.refutation.specs.declared.line.Line.{Line};
 ghost use Rattle.refutation_sentences.specs.Sentences as Spec;
 
 use crate::basis::{Basis, bases_of};
 use crate::closing::push_closing;
 use crate::context::Context;
-use crate::instead::tell_instead;
+use crate::instead::instead_of;
 use crate::order::order_of;
 use crate::sentence::sentence_of;
 use index::Index;
@@ -21,86 +18,145 @@ use refutation::Refutation;
 use refutecheck::Premises;
 use std::alloc::{AllocError, Global};
 
-// Puts the sentence of the premise behind the lines, unless it is among them.
-fn tell(
+// The sentences of the premises, each at the place of its premise.
+fn texts_of(
     context: &Context<'_, '_, '_, '_, '_>,
-    lines: &mut IndexSet<Vec<u8>>,
-    basis: &Basis<'_>,
-) -> Result<(), AllocError>
-    requires { IsListOf
-        (IsInPremise context.now.premises.now basis.now.premise.now) basis.now.clause }
-    ensures { OnOk result
-        ((sentences_at : List Line) → Spec.IsBasis context.now.premises.now sentences_at basis.now
-        → Spec.AreTruthful context.now.premises.now sentences_at
-        (map (λ key. key.items) lines.old.keys)
-        → Spec.AreTruthful context.now.premises.now sentences_at
-        (map (λ key. key.items) lines.new.keys)) }
+    refutation: &Refutation,
+    bases: &[Basis<'_>],
+) -> Result<Vec<Vec<u8>>, AllocError>
+    requires { All (Spec.IsBasis context.now.premises.now refutation.now) bases.now }
+    ensures truthful { IfOk result
+        (λ texts. Spec.AreTruthful context.now.premises.now refutation.now
+        (map (λ text. text.items) texts.items)) }
+    ensures told { IfOk result
+        (λ texts. All (λ basis. Spec.HasSentence context.now.premises.now basis.premise.now
+        (map (λ text. text.items) texts.items)) bases.now) }
 {
-    let line = sentence_of(context, basis)?;
+    let mut texts = Vec::new(context.alloc());
+    for basis in bases {
+        texts.push(sentence_of(context, basis)?)?;
+    }
+    Ok(texts)
+}
+
+// Puts the line behind the others, unless it is among them.
+fn insert_line<'t>(lines: &mut IndexSet<&'t [u8]>, line: &'t [u8]) -> Result<(), AllocError>
+    ensures { OnOk result ((other : List ℕ)
+        → Contains (map (λ key. key.now) lines.new.keys) other
+        ↔ (Contains (map (λ key. key.now) lines.old.keys) other ⊎ (other ≡ line.now))) }
+{
     lines.insert(line)?;
     Ok(())
 }
 
-// The premise at the place, if there is one there.
-fn basis_at<'x, 'r>(bases: &'x [Basis<'r>], place: usize) -> Option<&'x Basis<'r>>
-    ensures { option_copied result ≡ slice_get bases.now place }
+// The text at the place, if there is one.
+fn text_at<'t>(texts: &'t [Vec<u8>], place: usize) -> Option<&'t Vec<u8>>
+    ensures { option_copied result ≡ slice_get texts.now place }
 {
-    bases.get(place)
+    texts.get(place)
 }
 
-// Puts the sentence of the premise at the place behind the lines, if there is one there.
-fn tell_at(
-    context: &Context<'_, '_, '_, '_, '_>,
-    lines: &mut IndexSet<Vec<u8>>,
-    refutation: &Refutation,
-    bases: &[Basis<'_>],
+// Puts the text at the place behind the lines, unless it is among them, if there is one.
+fn insert_at<'t>(
+    lines: &mut IndexSet<&'t [u8]>,
+    texts: &'t [Vec<u8>],
     place: usize,
 ) -> Result<(), AllocError>
-    requires { All (Spec.IsBasis context.now.premises.now refutation.now) bases.now }
-    ensures { OnOk result
-        (Spec.AreTruthful context.now.premises.now refutation.now
-        (map (λ key. key.items) lines.old.keys)
-        → Spec.AreTruthful context.now.premises.now refutation.now
-        (map (λ key. key.items) lines.new.keys)) }
+    ensures { OnOk result ((other : List ℕ)
+        → Contains (map (λ key. key.now) lines.new.keys) other
+        → Contains (map (λ key. key.now) lines.old.keys) other
+        ⊎ Contains (map (λ text. text.items) texts.now) other) }
 {
-    match basis_at(bases, place) {
+    match text_at(texts, place) {
         None => Ok(()),
-        Some(basis) => {
-            tell(context, lines, basis)?;
+        Some(text) => {
+            insert_line(lines, text.as_slice())?;
             Ok(())
         }
     }
 }
 
-// The sentences of the premises at these places, each once.
-fn sentences_at(
-    context: &Context<'_, '_, '_, '_, '_>,
-    refutation: &Refutation,
-    bases: &[Basis<'_>],
+// The texts at these places.
+fn lines_at<'t>(
+    alloc: Global,
+    texts: &'t [Vec<u8>],
     places: &[usize],
-) -> Result<IndexSet<Vec<u8>>, AllocError>
-    requires { All (Spec.IsBasis context.now.premises.now refutation.now) bases.now }
-    ensures { IfOk result
-        (λ lines. Spec.AreTruthful context.now.premises.now refutation.now
-        (map (λ key. key.items) lines.keys)) }
+) -> Result<IndexSet<&'t [u8]>, AllocError>
+    ensures { IfOk result (λ lines. (other : List ℕ)
+        → Contains (map (λ key. key.now) lines.keys) other
+        → Contains (map (λ text. text.items) texts.now) other) }
 {
-    let mut lines = IndexSet::new(context.alloc());
+    let mut lines = IndexSet::new(alloc);
     for place in places {
-        tell_at(context, &mut lines, refutation, bases, *place)?;
+        insert_at(&mut lines, texts, *place)?;
     }
     Ok(lines)
 }
 
-// The text of the lines and of the closing one.
-fn text_of(alloc: Global, lines: &[Vec<u8>], all_versions: bool) -> Result<Vec<u8>, AllocError>
-    ensures { IfOk result (λ text.
-        text.items ≡ flat_map (λ one. one) (map (λ line. line.items) lines.now)
-        ++ Spec.closing_words all_versions) }
+// Puts the texts behind the lines that aren't among them.
+fn insert_all<'t>(lines: &mut IndexSet<&'t [u8]>, texts: &'t [Vec<u8>]) -> Result<(), AllocError>
+    ensures { OnOk result ((other : List ℕ)
+        → Contains (map (λ key. key.now) lines.new.keys) other
+        ↔ (Contains (map (λ key. key.now) lines.old.keys) other
+        ⊎ Contains (map (λ text. text.items) texts.now) other)) }
 {
-    let mut text = Vec::new(alloc);
+    for text in texts {
+        insert_line(lines, text.as_slice())?;
+    }
+    Ok(())
+}
+
+// The texts, each once, those at the places first.
+fn lines_in_order<'t>(
+    alloc: Global,
+    texts: &'t [Vec<u8>],
+    places: &[usize],
+) -> Result<IndexSet<&'t [u8]>, AllocError>
+    ensures { IfOk result (λ lines. (other : List ℕ)
+        → Contains (map (λ key. key.now) lines.keys) other
+        ↔ Contains (map (λ text. text.items) texts.now) other) }
+{
+    let mut lines = lines_at(alloc, texts, places)?;
+    insert_all(&mut lines, texts)?;
+    Ok(lines)
+}
+
+// The lines behind the text.
+fn push_lines(text: &mut Vec<u8>, lines: &[&[u8]]) -> Result<(), AllocError>
+    ensures { OnOk result (text.new.items
+        ≡ text.old.items ++ flat_map (λ one. one) (map (λ line. line.now) lines.now)) }
+{
+    for line in lines {
+        text.extend_from_slice(*line)?;
+    }
+    Ok(())
+}
+
+// The owned lines behind the text.
+fn push_owned(text: &mut Vec<u8>, lines: &[Vec<u8>]) -> Result<(), AllocError>
+    ensures { OnOk result (text.new.items
+        ≡ text.old.items ++ flat_map (λ one. one) (map (λ line. line.items) lines.now)) }
+{
     for line in lines {
         text.extend_from_slice(line.as_slice())?;
     }
+    Ok(())
+}
+
+// The text of the lines, of those behind them, and of the closing one.
+fn text_of(
+    alloc: Global,
+    lines: &[&[u8]],
+    behind: &[Vec<u8>],
+    all_versions: bool,
+) -> Result<Vec<u8>, AllocError>
+    ensures { IfOk result (λ text.
+        text.items ≡ flat_map (λ one. one) (map (λ line. line.now) lines.now
+        ++ map (λ line. line.items) behind.now) ++ Spec.closing_words all_versions) }
+{
+    let mut text = Vec::new(alloc);
+    push_lines(&mut text, lines)?;
+    push_owned(&mut text, behind)?;
     push_closing(&mut text, all_versions)?;
     Ok(text)
 }
@@ -118,7 +174,7 @@ pub fn sentences(
     refutation: &Refutation,
     all_versions: bool,
 ) -> Result<Vec<u8>, AllocError>
-    // each line tells a premise of the refutation, or of a version that would do too
+    // each line tells a premise of the refutation, or of a version that would do too, and each premise is told
     ensures { IfOk result
         (λ text. Spec.AreSentences premises.now refutation.now all_versions text.items) }
 {
@@ -130,8 +186,14 @@ pub fn sentences(
         prefs,
         all_versions,
     };
-    let mut lines = sentences_at(&context, refutation, bases.as_slice(), places.as_slice())?;
-    tell_instead(&context, &mut lines, bases.as_slice())?;
-    let text = text_of(premises.alloc(), lines.as_slice(), all_versions)?;
+    let texts = texts_of(&context, refutation, bases.as_slice())?;
+    let lines = lines_in_order(premises.alloc(), texts.as_slice(), places.as_slice())?;
+    let instead = instead_of(&context, bases.as_slice())?;
+    let text = text_of(
+        premises.alloc(),
+        lines.as_slice(),
+        instead.as_slice(),
+        all_versions,
+    )?;
     Ok(text)
 }

@@ -1,9 +1,11 @@
--- One line more.
-use Rattle.std.proofs.Common.{sym, subst}
-use Rattle.std.specs.List.{Contains}
+-- The lines are those of the refutation.
+use Rattle.std.proofs.Common.{List, subst}
+use Rattle.std.specs.Prelude.{IfOk}
+use Rattle.std.specs.List.{All}
+use Rattle.refutation.specs.declared.line.Line.{Line}
+use Rattle.refutation_sentences.specs.Sentences.{IsBasis}
 use Rattle.refutation_sentences.proofs.basis.bases_of.Goals as goal
 
-pub loop-line-preserved : goal.loop-line-preserved
-loop-line-preserved c = c.in_ok-push_basis.ensures c.args.refutation.now
-    (subst (λ lines. Contains lines c.line-item.result) c.as_slice-line-items.ensures (c.loop-line.line-index, c.loop-line-test.true, sym c.line-item.is))
-    c.loop-line.invariant
+pub returns-clause-bases : goal.returns-clause-bases
+returns-clause-bases c = subst (λ (lines : List Line). IfOk c.bases_in.result (λ bases. All (IsBasis c.args.premises.now lines) bases.items))
+    c.as_slice.ensures c.bases_in.ensures.bases
