@@ -1,3 +1,4 @@
+mod AgainLemmas
 mod LeavingLemmas
 mod LeftLemmas
 mod PutLemmas

@@ -1,6 +1,7 @@
 -- Members of documents: objects of names, one more behind those so far, and members that are put to others.
 use Rattle.std.proofs.Common.{◌≡◌, ◌∙◌, ◌++◌, ℕ, List, [], ◌∷◌, Option, ap, append_assoc, arith, length, refl, sym}
 use Rattle.candidates.specs.Offer.{Offer}
+use Rattle.cli.specs.Again.{ArchiveOf}
 use Rattle.cli.specs.Members.{AreAddedIn, AreMembersIn, AreOfAnswered, AreOfKept, name_data, names_data, with_left}
 use Rattle.command_line.specs.declared.call.Format.{Format}
 use Rattle.command_line.specs.declared.call.Format.TheVariants as format
@@ -24,7 +25,7 @@ none_left (name ∷ names) [] none = refl
 none_left (name ∷ names) (candidate ∷ rest) none = absurd (omega (arith, none))
 
 -- members to which what is left of a request is put
-pub added : (written : Format) (kept : KeptBack) (old new : Members) → AreMembersIn written (AreOfAnswered kept.answered) old
-    → AreAddedIn written (with_left kept.request kept.notes) old new → AreMembersIn written (AreOfKept kept) new
-added format.Text kept old new are put = tt
-added format.Json kept old new are put = (old, are, put)
+pub added : (archives : ArchiveOf) (written : Format) (kept : KeptBack) (old new : Members) → AreMembersIn written (AreOfAnswered archives kept.answered) old
+    → AreAddedIn written (with_left kept.request kept.notes) old new → AreMembersIn written (AreOfKept archives kept) new
+added archives format.Text kept old new are put = tt
+added archives format.Json kept old new are put = (old, are, put)

@@ -1,13 +1,18 @@
 -- The reply of what is said.
-use Rattle.std.proofs.Common.{◌≡◌, Err, Global, IfOk, List, Ok, Result, Vec, subst, ℕ}
+use Rattle.std.proofs.Common.{◌≡◌, Err, Global, IfOk, List, None, Ok, Result, Some, Vec, refl, subst, ℕ}
 use Rattle.candidates.specs.Inputs.{indices_of}
+use Rattle.cli.proofs.AgainLemmas.{archives_none}
 use Rattle.cli.proofs.ResultLemmas.{if_ok}
+use Rattle.cli.specs.Again.{ArchiveOf, archives_by, no_archives}
 use Rattle.refusal_lines.specs.Lines.{refusal_words}
 use Rattle.cli.specs.Batch.{IsRefusedIn, IsReplyOf, IsReplyWhere, with_id}
 use Rattle.json_answers.specs.Document.{IsLineOf, object_with}
 use Rattle.inputs.proofs.ReadAsLemmas.{read-asking}
 use Rattle.inputs.specs.ReadAs.{AreReadAs, asking, start_of}
-use Rattle.inputs.specs.Texts.{Texts}
+use Rattle.inputs.specs.Inputs.{shelved}
+use Rattle.inputs.specs.Texts.{Found, Shelved, Texts, texts_of}
+use Rattle.inputs.specs.declared.inputs.Inputs.{Inputs}
+use Rattle.inputs.specs.declared.settings.Settings.{Settings}
 use Rattle.inputs.specs.declared.before.Before.{Before}
 use Rattle.inputs.specs.declared.refusal.Refusal.{Refusal}
 use Rattle.serde_json.specs.Data.{Data, Members}
@@ -24,6 +29,13 @@ read_before texts before request read = record {
     files_are = read.named.files_are;
   };
 }
+
+-- where no index is found, what holds of the archives holds of none
+pub nothing_again : (P : ArchiveOf → Type 0) (settings : Settings) (inputs : Inputs) (judged : Found)
+    → ((number : ℕ) (file : List ℕ) → (shelved inputs judged).index number file ≡ None)
+    → ((at : Shelved) → Some (shelved inputs judged) ≡ Some at → P (archives_by (texts_of settings at))) → P no_archives
+nothing_again P settings inputs judged none is =
+    subst P (archives_none (texts_of settings (shelved inputs judged)) none) (is (shelved inputs judged) refl)
 
 -- a document of such members and of the value is such a reply
 pub reply_beside : {E : Type 0} (id : Data) (text : List ℕ) (Are : Members → Type 0) (all : Members) (r : Result (Vec ℕ Global) E)

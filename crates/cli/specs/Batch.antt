@@ -1,7 +1,8 @@
 -- Questions that are answered one after the other over one reading (docs/FORMATS.md, "Many questions").
-use Rattle.std.specs.Prelude.{◌≡◌, ◌⊎◌, ℕ, Bool, List, Option, None, Some, Result, Ok, Err, codes}
+use Rattle.std.specs.Prelude.{◌≡◌, ◌⊎◌, ℕ, Bool, true, List, Option, None, Some, Result, Ok, Err, codes}
 use Rattle.std.specs.Option.{unwrap_or}
 use Rattle.candidates.specs.Offer.{Offer}
+use Rattle.cli.specs.Again.{no_archives}
 use Rattle.cli.specs.Members.{AreOfAnswered, AreOfCandidates, AreOfKept, AreOfPlan, AreOfRefutation}
 use Rattle.cli.specs.Packages.{IsSaidOfSurvey}
 use Rattle.cli_engine.specs.Answer.{IsSaidOfNames}
@@ -75,16 +76,20 @@ survey_of names all_versions without_essential limit = record {
 abbrev pub AreOfSurvey : Surveyed → Members → Type 0
 AreOfSurvey surveyed all = all ≡ with_survey surveyed no_members
 
--- the reply to each question is that of what is said by the texts with its request in the place of theirs, as where it is asked alone
+-- the reply to each question is that of what is said by the texts with its request in the place of theirs, as where it is asked alone, and
+-- with the reasons of the answer and the lines of a refutation; but nothing is read a second time for it
 abbrev pub IsReplyTo : Texts → ℕ → Data → Asks → List ℕ → Type 0
 IsReplyTo texts limit id (ask.solve request own names_pairs) reply =
-    IsReplyWhere {A = Answered} id (IsSaidOfRequest (asking request texts) (unwrap_or own limit) names_pairs) solved_text AreOfAnswered reply
+    IsReplyWhere {A = Answered} id (IsSaidOfRequest (asking request texts) (unwrap_or own limit) names_pairs true true) solved_text
+    (AreOfAnswered no_archives) reply
 IsReplyTo texts limit id (ask.keep_back request own) reply =
-    IsReplyWhere {A = KeptBack} id (IsSaidOfKept (asking request texts) (unwrap_or own limit)) (λ kept. solved_text kept.answered) AreOfKept reply
+    IsReplyWhere {A = KeptBack} id (IsSaidOfKept (asking request texts) (unwrap_or own limit) true true) (λ kept. solved_text kept.answered)
+    (AreOfKept no_archives) reply
 IsReplyTo texts limit id (ask.check_plan request plan) reply =
-    IsReplyWhere {A = JudgedPlan} id (IsSaid (asking request texts) (Some plan)) (λ judged. verdict_line judged.verdict) AreOfPlan reply
+    IsReplyWhere {A = JudgedPlan} id (IsSaid (asking request texts) (Some plan) true) (λ judged. verdict_line judged.verdict)
+    (AreOfPlan no_archives) reply
 IsReplyTo texts limit id (ask.check_refutation request refutation) reply =
-    IsReplyWhere {A = JudgedRefutation} id (IsSaidOf (asking request texts) (Some refutation)) (λ judged. refutation_line judged.verdict)
+    IsReplyWhere {A = JudgedRefutation} id (IsSaidOf (asking request texts) (Some refutation) true true) (λ judged. refutation_line judged.verdict)
     AreOfRefutation reply
 IsReplyTo texts limit id (ask.candidate names) reply =
     IsReplyWhere {A = List (Option Offer)} id (IsSaidOfNames texts names) (candidate_lines names) (AreOfCandidates names) reply

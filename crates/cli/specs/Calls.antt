@@ -1,7 +1,9 @@
 -- What the program answers to a call over known files.
 use Rattle.std.specs.Prelude.{◌≡◌, ℕ, Bool, List, [], Option, Result, Ok, Err, None, Some, codes}
 use Rattle.candidates.specs.Offer.{Offer}
+use Rattle.cli.specs.Again.{archives_by}
 use Rattle.cli.specs.Applied.{IsOutcomeOfPlanTaken}
+use Rattle.cli.specs.Asking.{IsSaidIn, is_document}
 use Rattle.cli.specs.Batch.{IsOutcomeOfBatch}
 use Rattle.cli.specs.Files.{Files, judged_at, shelved_at}
 use Rattle.cli.specs.Members.{AreMembersOf, AreOfAnswered, AreOfCandidates, AreOfPlan, AreOfRefutation}
@@ -54,16 +56,18 @@ IsOutcomeOfNames texts names =
 
 -- the outcome is that of what is said of the request by the texts
 abbrev pub IsOutcomeOfRequest : Texts → ℕ → Bool → Format → Outcome → Type 0
-IsOutcomeOfRequest texts limit names_pairs =
-    IsPrintedOf {A = Answered} (IsSaidOfRequest texts limit names_pairs) IsOutcomeOfSolved AreOfAnswered
+IsOutcomeOfRequest texts limit names_pairs written = IsPrintedOf {A = Answered} (λ said. IsSaidIn written (λ tells_reasons.
+    IsSaidOfRequest texts limit names_pairs tells_reasons (is_document written) said)) IsOutcomeOfSolved (AreOfAnswered (archives_by texts)) written
 
 -- the outcome is that of what is said of the plan by the texts
 abbrev pub IsOutcomeOfPlanJudged : Texts → Found → Format → Outcome → Type 0
-IsOutcomeOfPlanJudged texts plan = IsPrintedOf {A = JudgedPlan} (IsSaid texts plan) IsOutcomeOfPlan AreOfPlan
+IsOutcomeOfPlanJudged texts plan written = IsPrintedOf {A = JudgedPlan} (λ said. IsSaidIn written (λ tells_reasons.
+    IsSaid texts plan tells_reasons said)) IsOutcomeOfPlan (AreOfPlan (archives_by texts)) written
 
 -- the outcome is that of what is said of the refutation by the texts
 abbrev pub IsOutcomeOfLines : Texts → Found → Format → Outcome → Type 0
-IsOutcomeOfLines texts lines = IsPrintedOf {A = JudgedRefutation} (IsSaidOf texts lines) IsOutcomeOfRefutation AreOfRefutation
+IsOutcomeOfLines texts lines written = IsPrintedOf {A = JudgedRefutation} (λ said. IsSaidIn written (λ tells_reasons.
+    IsSaidOf texts lines tells_reasons (is_document written) said)) IsOutcomeOfRefutation AreOfRefutation written
 
 -- the outcome is that of what is said of the versions
 abbrev pub IsOutcomeOfVersions : Text → Comparison → Text → Outcome → Type 0

@@ -5,13 +5,14 @@ use Rattle.apply_engine.specs.Prepared.{IsSaidOfPrepared}
 use Rattle.apply_engine.specs.declared.good_plan.CarriedOut.{CarriedOut}
 use Rattle.apply_engine.specs.declared.question.Prepared.{Prepared}
 use Rattle.apply_engine.specs.declared.question.Prepared.TheVariants.{Ready}
+use Rattle.cli.specs.Again.{ArchiveOf, archives_by}
 use Rattle.cli.specs.Applied.{AreApart, IsOutcomeOfPrepared, IsOutcomeOfStop, IsRunThrough}
 use Rattle.cli.specs.Calls.{IsOutcomeOfAsked, IsOutcomeOfRequest}
 use Rattle.cli.specs.Files.{Files, HasPut, judged_at}
 use Rattle.cli.specs.Kept.{IsNoted, Kept, Put, SameElsewhere, Untouched}
 use Rattle.cli.specs.Packages.{IsLeftOfPackages}
 use Rattle.cli.specs.Places.{paths_for, texts_for}
-use Rattle.cli.specs.Possible.{IsPrintedOfKept}
+use Rattle.cli.specs.Possible.{IsPrintedOfKept, IsSaidOfKeptIn}
 use Rattle.cli.specs.declared.applied.Stop.{Stop}
 use Rattle.command_line.specs.Asked as ask
 use Rattle.command_line.specs.Asked.{Asked, Extent}
@@ -19,7 +20,6 @@ use Rattle.command_line.specs.declared.call.Format.{Format}
 use Rattle.disk.specs.Facts.{DiskFacts}
 use Rattle.inputs.specs.Texts.{Found, Texts}
 use Rattle.inputs.specs.declared.refusal.Refusal.{Refusal}
-use Rattle.keep_back.specs.KeptBack.{IsSaidOfKept}
 use Rattle.keep_back.specs.declared.keep_back.KeptBack.{KeptBack}
 use Rattle.outcomes.specs.Answer.{applied_line}
 use Rattle.outcomes.specs.Outcome.{IsOutcomeOfMemory, IsOutcomeOfOneFile, IsOutcomeOfRefusal, IsRequestUnwritten, IsUnwritten}
@@ -107,15 +107,16 @@ IsLeftOfKept (Some path) request printed at was outcome files kept =
     ((outcome ≡ printed) × IsPut path request at was files kept) ⊎ (IsRequestUnwritten outcome × Untouched at was files kept)
 
 -- the answer to what is left is printed and its request put; and behind a refusal nothing is changed
-abbrev pub IsLeftOfSaid : {J : Type 0} → Format → Result KeptBack Refusal → Option (List ℕ) → Files → Kept J → Leaving J
-IsLeftOfSaid written (Ok back) output at was outcome files kept =
-    (printed : Outcome) × IsPrintedOfKept written back printed × IsLeftOfKept output back.request printed at was outcome files kept
-IsLeftOfSaid written (Err refused) output at was outcome files kept = IsOutcomeOfRefusal refused outcome × Untouched at was files kept
+abbrev pub IsLeftOfSaid : {J : Type 0} → ArchiveOf → Format → Result KeptBack Refusal → Option (List ℕ) → Files → Kept J → Leaving J
+IsLeftOfSaid archives written (Ok back) output at was outcome files kept =
+    (printed : Outcome) × IsPrintedOfKept archives written back printed × IsLeftOfKept output back.request printed at was outcome files kept
+IsLeftOfSaid archives written (Err refused) output at was outcome files kept = IsOutcomeOfRefusal refused outcome × Untouched at was files kept
 
 -- what is left is that of what is said of as much of the request as can be, by the texts
 abbrev pub IsLeftOfPossible : {J : Type 0} → Texts → ℕ → Option (List ℕ) → Format → Files → Kept J → Leaving J
 IsLeftOfPossible texts limit output written at was outcome files kept =
-    (said : Result KeptBack Refusal) × IsSaidOfKept texts limit said × IsLeftOfSaid written said output at was outcome files kept
+    (said : Result KeptBack Refusal) × IsSaidOfKeptIn texts limit written said
+    × IsLeftOfSaid (archives_by texts) written said output at was outcome files kept
 
 -- Of what is asked for
 

@@ -1,4 +1,6 @@
+pub mod Again
 pub mod Applied
+pub mod Asking
 pub mod Batch
 pub mod Calls
 pub mod Files

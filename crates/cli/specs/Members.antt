@@ -1,7 +1,8 @@
 -- What a document has of an answer beside its text (docs/FORMATS.md, "Answers as JSON"), as far as that is promised.
-use Rattle.std.specs.Prelude.{◌≡◌, ℕ, Bool, List, [], ◌∷◌, Option, None, Some, Result, Ok, Err, codes, is_some, ⊤, if◌then◌else◌}
+use Rattle.std.specs.Prelude.{◌≡◌, ◌++◌, ℕ, Bool, List, [], ◌∷◌, Option, None, Some, Result, Ok, Err, codes, is_some, ⊤, if◌then◌else◌}
 use Rattle.std.specs.List.{list_all}
 use Rattle.candidates.specs.Offer.{Offer}
+use Rattle.cli.specs.Again.{ArchiveOf}
 use Rattle.cli_engine.specs.declared.check.JudgedPlan.{JudgedPlan}
 use Rattle.cli_engine.specs.declared.check_refutation.JudgedRefutation.{JudgedRefutation}
 use Rattle.cli_engine.specs.declared.solve.Answered.{Answered}
@@ -29,6 +30,15 @@ use Rattle.solver.specs.declared.solved.Undecided.TheVariants as undecided
 abbrev pub with_reasons : List ℕ → Members → Members
 with_reasons sentences others = put (codes "reasons") (lines_data sentences) others
 
+-- what is told of an answer, if anything is
+abbrev pub reasons_in : Option (List ℕ) → List ℕ
+reasons_in None = []
+reasons_in (Some text) = text
+
+-- the members with what is told of an answer, and hints behind it
+abbrev pub with_told : Option (List ℕ) → List ℕ → Members → Members
+with_told reasons hints others = with_reasons (reasons_in reasons ++ hints) others
+
 -- the members that were made, if any were
 abbrev pub members_in : Option Made → Members
 members_in None = no_members
@@ -36,11 +46,11 @@ members_in (Some made) = members_view made.map.entries
 
 -- The members of each answer
 
--- those of the verdict on a plan: its steps, and the verdict
-pub record AreOfPlan (judged : JudgedPlan) (all : Members) : Type 0 where
-  pub others : Members
+-- those of the verdict on a plan: what is told of it with some hints, its steps with these archives, and the verdict
+pub record AreOfPlan (archives : ArchiveOf) (judged : JudgedPlan) (all : Members) : Type 0 where
+  pub hints : List ℕ
   pub stepped : Members
-  pub steps : AreWithSteps judged.steps.items others stepped
+  pub steps : AreWithSteps archives judged.steps.items (with_told judged.reasons hints no_members) stepped
   pub answer : all ≡ with_verdict judged.verdict stepped
 
 -- the number of the first bad line of a refutation, if it has one
@@ -48,10 +58,10 @@ abbrev pub bad_line_of : Verdict → Option ℕ
 bad_line_of verdict.Yes = None
 bad_line_of (verdict.No number) = Some number
 
--- those of the verdict on a refutation: its lines, sentences, and the verdict
+-- those of the verdict on a refutation: its lines, what is told of it with some hints, and the verdict
 pub record AreOfRefutation (judged : JudgedRefutation) (all : Members) : Type 0 where
-  pub sentences : List ℕ
-  pub answer : all ≡ with_bad_line (bad_line_of judged.verdict) (with_reasons sentences (members_in judged.members))
+  pub hints : List ℕ
+  pub answer : all ≡ with_bad_line (bad_line_of judged.verdict) (with_told judged.reasons hints (members_in judged.members))
 
 -- why a request is undecided, in a word
 abbrev pub undecided_word : Undecided → List ℕ
@@ -67,17 +77,18 @@ with_solved (solved.Refuted lines) others = with_text (codes "answer") (codes "r
 with_solved (solved.Undecided why) others =
     with_text (codes "why") (undecided_word why) (with_text (codes "answer") (codes "undecided") others)
 
--- the new members have the steps of a plan in addition
-abbrev pub AreStepped : Solved → Members → Members → Type 0
-AreStepped (solved.Plan steps) old new = AreWithSteps steps.items old new
-AreStepped (solved.Refuted lines) old new = new ≡ old
-AreStepped (solved.Undecided why) old new = new ≡ old
+-- the new members have the steps of a plan with these archives in addition
+abbrev pub AreStepped : ArchiveOf → Solved → Members → Members → Type 0
+AreStepped archives (solved.Plan steps) old new = AreWithSteps archives steps.items old new
+AreStepped archives (solved.Refuted lines) old new = new ≡ old
+AreStepped archives (solved.Undecided why) old new = new ≡ old
 
--- those of what is answered to a request: the lines of a refutation, sentences, the steps of a plan, and how it is solved
-pub record AreOfAnswered (answered : Answered) (all : Members) : Type 0 where
-  pub sentences : List ℕ
+-- those of what is answered to a request: the lines of a refutation, what is told of the answer with some hints, the steps of a plan
+-- with these archives, and how it is solved
+pub record AreOfAnswered (archives : ArchiveOf) (answered : Answered) (all : Members) : Type 0 where
+  pub hints : List ℕ
   pub stepped : Members
-  pub steps : AreStepped answered.solved (with_reasons sentences (members_in answered.members)) stepped
+  pub steps : AreStepped archives answered.solved (with_told answered.reasons hints (members_in answered.members)) stepped
   pub answer : all ≡ with_solved answered.solved stepped
 
 -- the members with what is left of a request, and with the lines on what was left out
@@ -85,8 +96,8 @@ abbrev pub with_left : List ℕ → List ℕ → Members → Members
 with_left request notes others = put (codes "kept_back") (lines_data notes) (put (codes "request") (text_data request) others)
 
 -- those of what is answered to what is left of a request, and of that
-abbrev pub AreOfKept : KeptBack → Members → Type 0
-AreOfKept kept all = (answered : Members) × AreOfAnswered kept.answered answered × (all ≡ with_left kept.request kept.notes answered)
+abbrev pub AreOfKept : ArchiveOf → KeptBack → Members → Type 0
+AreOfKept archives kept all = (answered : Members) × AreOfAnswered archives kept.answered answered × (all ≡ with_left kept.request kept.notes answered)
 
 -- the object of a name, with its candidate, if it has one
 abbrev pub name_data : List ℕ → Option Offer → Data

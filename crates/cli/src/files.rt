@@ -268,6 +268,9 @@ pub fn ask_files<H: Host, Q: Question>(
         beside.old result beside.new }
     ensures kept { Q.keeps question.now settings.now beside.old result beside.new }
     ensures same { H.files shelf.new.host.now ≡ H.files shelf.old.host.now }
+    ensures texts { (at : Files) → H.files shelf.old.host.now ≡ Some at
+        → option_map (λ files. shelved_at files shelf.new.paths.now) (H.files shelf.new.host.now)
+        ≡ Some (shelved_at at shelf.old.paths.now) }
     ensures keeps { H.kept shelf.new.host.now ≡ H.kept shelf.old.host.now }
     ensures count { CountsRead result (H.faults shelf.old.host.now) (H.faults shelf.new.host.now) }
     ensures held { shelf.new.host.ghost_name ≡ shelf.old.host.ghost_name }

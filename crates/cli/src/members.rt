@@ -1,7 +1,10 @@
-//! What a document has of an answer beside its text, where one is asked for. The sentences, of which nothing is promised, are put first.
-ghost use Rattle.std.specs.Prelude.{◌≡◌, IfOk, OnOk};
+//! What a document has of an answer beside its text, where one is asked for. What is told of it is put first, with hints behind it, of
+//! which nothing is promised.
+ghost use Rattle.std.specs.Prelude.{◌≡◌, IfOk, OnOk, Some};
+ghost use Rattle.cli.specs.Again.{archives_by};
 ghost use Rattle.cli.specs.Members as Spec;
-ghost use Rattle.cli.specs.Members.{AreMembersIn, members_in};
+ghost use Rattle.cli.specs.Members.{AreMembersIn, members_in, reasons_in};
+ghost use Rattle.inputs.specs.Texts.{Shelved, texts_of};
 ghost use Rattle.json_answers.specs.Steps.{AreWithSteps};
 ghost use Rattle.serde_json.specs.View.{members_view};
 
@@ -14,26 +17,53 @@ use inputs::Shelf;
 use json_answers::{
     Members, put_bad_line, put_sentences, put_steps, put_text, put_undecided, put_verdict,
 };
-use rules::Step;
+use rules::{Items, Step};
 use std::alloc::{AllocError, Global};
 
+/// What is told of an answer, which is empty where nothing is.
+pub(crate) fn reasons_in(reasons: &Option<Items<u8>>) -> &[u8]
+    ensures { result.now ≡ reasons_in reasons.now }
+{
+    match reasons {
+        Some(text) => text.as_slice(),
+        None => &[],
+    }
+}
+
+// Puts what is told of an answer, and the hints behind it.
+fn put_told(
+    alloc: Global,
+    members: &mut Members,
+    reasons: &Option<Items<u8>>,
+    hints: &[u8],
+) -> Result<(), AllocError>
+    ensures { OnOk result (members_view members.new.map.entries
+        ≡ Spec.with_told reasons.now hints.now (members_view members.old.map.entries)) }
+{
+    let mut text = reasons_in(reasons).to_vec(alloc)?;
+    text.extend_from_slice(hints)?;
+    put_sentences(alloc, members, text.as_slice())
+}
+
 /// The members of the answer about a plan, where it is written as a document: the steps, with the fields of the stanzas that they
-/// unpack, which are read a second time, the sentences, and the verdict. Memory alone can fail.
+/// unpack, which are read a second time, what is told of it, with these hints, and the verdict. Memory alone can fail.
 pub(crate) fn members_of_plan<S: Shelf>(
     alloc: Global,
     shelf: &mut S,
     settings: &Settings<'_>,
     format: Format,
     judged: &JudgedPlan,
-    sentences: &[u8],
+    hints: &[u8],
 ) -> Result<Members, AllocError>
-    ensures members { IfOk result (λ members.
-        AreMembersIn format (Spec.AreOfPlan judged.now) (members_view members.map.entries)) }
+    ensures members { (at : Shelved) → S.known_texts shelf.old ≡ Some at
+        → IfOk result (λ members. AreMembersIn format
+        (Spec.AreOfPlan (archives_by (texts_of settings.now at)) judged.now)
+        (members_view members.map.entries)) }
     ensures held { S.holds shelf.old shelf.new }
 {
     match format {
         Format::Text => Ok(Members::new(alloc)),
-        Format::Json => plan_members(alloc, shelf, settings, judged, sentences),
+        Format::Json => plan_members(alloc, shelf, settings, judged, hints),
     }
 }
 
@@ -43,14 +73,16 @@ fn plan_members<S: Shelf>(
     shelf: &mut S,
     settings: &Settings<'_>,
     judged: &JudgedPlan,
-    sentences: &[u8],
+    hints: &[u8],
 ) -> Result<Members, AllocError>
-    ensures members { IfOk result (λ members.
-        Spec.AreOfPlan judged.now (members_view members.map.entries)) }
+    ensures members { (at : Shelved) → S.known_texts shelf.old ≡ Some at
+        → IfOk result (λ members.
+        Spec.AreOfPlan (archives_by (texts_of settings.now at)) judged.now
+        (members_view members.map.entries)) }
     ensures held { S.holds shelf.old shelf.new }
 {
     let mut members = Members::new(alloc);
-    put_sentences(alloc, &mut members, sentences)?;
+    put_told(alloc, &mut members, &judged.reasons, hints)?;
     put_plan(
         alloc,
         shelf,
@@ -63,22 +95,24 @@ fn plan_members<S: Shelf>(
 }
 
 /// The members of the answer to a request, where it is written as a document: of a refutation its lines, of a plan its steps, as of one
-/// that is judged, the sentences, and what it is. Memory alone can fail.
+/// that is judged, what is told of it, with these hints, and what it is. Memory alone can fail.
 pub(crate) fn members_of_answered<S: Shelf>(
     alloc: Global,
     shelf: &mut S,
     settings: &Settings<'_>,
     format: Format,
     answered: Answered,
-    sentences: &[u8],
+    hints: &[u8],
 ) -> Result<Members, AllocError>
-    ensures members { IfOk result (λ members.
-        AreMembersIn format (Spec.AreOfAnswered answered) (members_view members.map.entries)) }
+    ensures members { (at : Shelved) → S.known_texts shelf.old ≡ Some at
+        → IfOk result (λ members. AreMembersIn format
+        (Spec.AreOfAnswered (archives_by (texts_of settings.now at)) answered)
+        (members_view members.map.entries)) }
     ensures held { S.holds shelf.old shelf.new }
 {
     match format {
         Format::Text => Ok(Members::new(alloc)),
-        Format::Json => answered_members(alloc, shelf, settings, answered, sentences),
+        Format::Json => answered_members(alloc, shelf, settings, answered, hints),
     }
 }
 
@@ -88,38 +122,41 @@ fn answered_members<S: Shelf>(
     shelf: &mut S,
     settings: &Settings<'_>,
     answered: Answered,
-    sentences: &[u8],
+    hints: &[u8],
 ) -> Result<Members, AllocError>
-    ensures members { IfOk result (λ members.
-        Spec.AreOfAnswered answered (members_view members.map.entries)) }
+    ensures members { (at : Shelved) → S.known_texts shelf.old ≡ Some at
+        → IfOk result (λ members.
+        Spec.AreOfAnswered (archives_by (texts_of settings.now at)) answered
+        (members_view members.map.entries)) }
     ensures held { S.holds shelf.old shelf.new }
 {
     let Answered {
         solved,
+        reasons,
         members,
         ..
     } = answered;
     let mut members = members_or_none(alloc, members);
-    put_sentences(alloc, &mut members, sentences)?;
+    put_told(alloc, &mut members, &reasons, hints)?;
     put_solution(alloc, shelf, settings, &solved, &mut members)?;
     put_solved(alloc, &solved, &mut members)?;
     Ok(members)
 }
 
-/// The members of the answer about a refutation, where it is written as a document: its lines, the sentences, and the verdict. Memory
-/// alone can fail.
+/// The members of the answer about a refutation, where it is written as a document: its lines, what is told of it, with these hints, and
+/// the verdict. Memory alone can fail.
 pub(crate) fn members_of_refutation(
     alloc: Global,
     format: Format,
     judged: JudgedRefutation,
-    sentences: &[u8],
+    hints: &[u8],
 ) -> Result<Members, AllocError>
     ensures { IfOk result (λ members.
         AreMembersIn format (Spec.AreOfRefutation judged) (members_view members.map.entries)) }
 {
     match format {
         Format::Text => Ok(Members::new(alloc)),
-        Format::Json => refutation_members(alloc, judged, sentences),
+        Format::Json => refutation_members(alloc, judged, hints),
     }
 }
 
@@ -127,14 +164,18 @@ pub(crate) fn members_of_refutation(
 fn refutation_members(
     alloc: Global,
     judged: JudgedRefutation,
-    sentences: &[u8],
+    hints: &[u8],
 ) -> Result<Members, AllocError>
     ensures { IfOk result (λ members.
         Spec.AreOfRefutation judged (members_view members.map.entries)) }
 {
-    let JudgedRefutation { verdict, members } = judged;
+    let JudgedRefutation {
+        verdict,
+        reasons,
+        members,
+    } = judged;
     let mut members = members_or_none(alloc, members);
-    put_sentences(alloc, &mut members, sentences)?;
+    put_told(alloc, &mut members, &reasons, hints)?;
     put_bad_line(alloc, &mut members, bad_line(&verdict))?;
     Ok(members)
 }
@@ -191,9 +232,9 @@ fn put_solution<S: Shelf>(
     solved: &Solved,
     members: &mut Members,
 ) -> Result<(), AllocError>
-    ensures steps { OnOk result
-        (Spec.AreStepped solved.now (members_view members.old.map.entries)
-        (members_view members.new.map.entries)) }
+    ensures steps { (at : Shelved) → S.known_texts shelf.old ≡ Some at → OnOk result
+        (Spec.AreStepped (archives_by (texts_of settings.now at)) solved.now
+        (members_view members.old.map.entries) (members_view members.new.map.entries)) }
     ensures held { S.holds shelf.old shelf.new }
 {
     match solved {
@@ -210,11 +251,11 @@ fn put_plan<S: Shelf>(
     steps: &[Step],
     members: &mut Members,
 ) -> Result<(), AllocError>
-    ensures steps { OnOk result
-        (AreWithSteps steps.now (members_view members.old.map.entries)
-        (members_view members.new.map.entries)) }
+    ensures steps { (at : Shelved) → S.known_texts shelf.old ≡ Some at → OnOk result
+        (AreWithSteps (archives_by (texts_of settings.now at)) steps.now
+        (members_view members.old.map.entries) (members_view members.new.map.entries)) }
     ensures held { S.holds shelf.old shelf.new }
 {
     let archives = archives_of(alloc, shelf, settings, steps)?;
-    put_steps(alloc, members, steps, &archives)
+    put_steps(alloc, members, &archives)
 }

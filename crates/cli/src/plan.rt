@@ -1,15 +1,17 @@
 //! A plan, judged by the files of a host.
 ghost use Rattle.std.specs.Prelude.{◌≡◌, IfOk, Some};
+ghost use Rattle.cli.specs.Again.{archives_by};
 ghost use Rattle.cli.specs.Calls.{IsOutcomeOfPlanJudged, texts_at};
 ghost use Rattle.cli.specs.Files.{Files, judged_at};
 ghost use Rattle.cli.specs.Members.{AreMembersOf, AreOfPlan};
+ghost use Rattle.inputs.specs.Texts.{Shelved, texts_of};
 ghost use Rattle.serde_json.specs.View.{members_view};
 
 use crate::arguments::Arguments;
-use crate::asking::{context_if, show, want};
+use crate::asking::{context_if, shown, tells_reasons, want};
 use crate::files::{HostShelf, Openings, ask_files};
 use crate::host::Host;
-use crate::members::members_of_plan;
+use crate::members::{members_of_plan, reasons_in};
 use crate::told::{tell_refusal, tell_unfinished};
 use cli_engine::{CheckPlan, JudgedPlan, Notes, Refusal, Settings};
 use command_line::Format;
@@ -26,6 +28,14 @@ fn tell_judged(answer: &Result<JudgedPlan, Refusal>, notes: &mut Notes) -> Resul
     }
 }
 
+// What is told of the answer.
+fn reasons_of(answer: &Result<JudgedPlan, Refusal>) -> &[u8] {
+    match answer {
+        Ok(judged) => reasons_in(&judged.reasons),
+        Err(_) => &[],
+    }
+}
+
 // What a document has of the answer.
 fn members_of<S: Shelf>(
     alloc: Global,
@@ -33,14 +43,16 @@ fn members_of<S: Shelf>(
     settings: &Settings<'_>,
     format: Format,
     answer: &Result<JudgedPlan, Refusal>,
-    sentences: &[u8],
+    hints: &[u8],
 ) -> Result<Members, AllocError>
-    ensures members { IfOk result (λ members.
-        AreMembersOf AreOfPlan format answer.now (members_view members.map.entries)) }
+    ensures members { (at : Shelved) → S.known_texts shelf.old ≡ Some at
+        → IfOk result (λ members.
+        AreMembersOf (AreOfPlan (archives_by (texts_of settings.now at))) format answer.now
+        (members_view members.map.entries)) }
     ensures held { S.holds shelf.old shelf.new }
 {
     match answer {
-        Ok(judged) => members_of_plan(alloc, shelf, settings, format, judged, sentences),
+        Ok(judged) => members_of_plan(alloc, shelf, settings, format, judged, hints),
         Err(_) => Ok(Members::new(alloc)),
     }
 }
@@ -72,7 +84,10 @@ pub(crate) fn outcome_of_plan_judged<H: Host>(
         context: &mut context,
         openings: Openings::none(),
     };
-    let answer = ask_files(alloc, &mut shelf, &settings, &CheckPlan {}, notes);
+    let question = CheckPlan {
+        tells_reasons: tells_reasons(explains, format),
+    };
+    let answer = ask_files(alloc, &mut shelf, &settings, &question, notes);
     tell_refusal(alloc, &answer, &shelf, notes)?;
     tell_judged(&answer, notes)?;
     let members = members_of(
@@ -83,7 +98,8 @@ pub(crate) fn outcome_of_plan_judged<H: Host>(
         &answer,
         notes.text.as_slice(),
     )?;
-    show(explains, notes);
+    let text = shown(alloc, explains, reasons_of(&answer), notes.text.as_slice())?;
+    notes.text = text;
     let plain = outcome_of_plan(alloc, &answer)?;
     outcome_in(alloc, format, plain, members)
 }

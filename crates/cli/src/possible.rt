@@ -1,18 +1,20 @@
 //! As much of a request as can be, answered by the files of a host.
 ghost use Rattle.std.specs.Prelude.{◌≡◌, IfOk, Some};
 ghost use Rattle.std.specs.Option.{option_map};
+ghost use Rattle.cli.specs.Again.{archives_by};
 ghost use Rattle.cli.specs.Calls.{texts_at};
 ghost use Rattle.cli.specs.Files.{Files};
 ghost use Rattle.cli.specs.Kept.{Kept};
 ghost use Rattle.cli.specs.Leaving.{IsLeftOfKept, IsLeftOfPossible, IsLeftWith};
 ghost use Rattle.cli.specs.Possible.{IsOutcomeOfPossible, IsPrintedOfKept, IsPrintedOfPut, IsPrintedWhere, IsSaidOfLeft};
+ghost use Rattle.inputs.specs.Texts.{Shelved, texts_of};
 
 use crate::arguments::Arguments;
-use crate::asking::{context_if, is_document, show, want};
+use crate::asking::{context_if, is_document, show, shown, tells_reasons, want};
 use crate::files::{HostShelf, Openings, ask_files};
 use crate::host::{Host, PutError};
 use crate::left_members::put_left;
-use crate::members::members_of_answered;
+use crate::members::{members_of_answered, reasons_in};
 use crate::told::{tell_refusal, tell_undecided};
 use cli_engine::{Input, Notes, Refusal, Settings};
 use command_line::Format;
@@ -55,9 +57,11 @@ fn left_of<S: Shelf>(
     settings: &Settings<'_>,
     format: Format,
     kept: KeptBack,
-    sentences: &[u8],
+    hints: &[u8],
 ) -> Result<Left, AllocError>
-    ensures printed { IfOk result (λ left. IsPrintedOfKept format kept left.printed) }
+    ensures printed { (at : Shelved) → S.known_texts shelf.old ≡ Some at
+        → IfOk result (λ left.
+        IsPrintedOfKept (archives_by (texts_of settings.now at)) format kept left.printed) }
     ensures request { IfOk result (λ left. left.request ≡ kept.request) }
     ensures held { S.holds shelf.old shelf.new }
 {
@@ -68,7 +72,7 @@ fn left_of<S: Shelf>(
         notes,
         ..
     } = kept;
-    let mut members = members_of_answered(alloc, shelf, settings, format, answered, sentences)?;
+    let mut members = members_of_answered(alloc, shelf, settings, format, answered, hints)?;
     put_left(
         alloc,
         format,
@@ -84,16 +88,14 @@ fn left_of<S: Shelf>(
     })
 }
 
-// Shows what is told of what was left out, behind the notes on an answer that is explained.
-fn show_left(explains: bool, left_out: &[u8], notes: &mut Notes) -> Result<(), AllocError> {
-    show(explains, notes);
+// Shows what is told of what was left out, behind what is shown of the answer.
+fn show_left(left_out: &[u8], notes: &mut Notes) -> Result<(), AllocError> {
     notes.text.extend_from_slice(left_out)
 }
 
 // What is printed of what is left, once its request was put.
 fn outcome_of_request_put(
     alloc: Global,
-    explains: bool,
     put: Result<(), PutError>,
     left: Left,
     notes: &mut Notes,
@@ -102,13 +104,10 @@ fn outcome_of_request_put(
 {
     match put {
         Ok(()) => {
-            show_left(explains, left.notes.as_slice(), notes)?;
+            show_left(left.notes.as_slice(), notes)?;
             Ok(left.printed)
         }
-        Err(PutError::Unwritten) => {
-            show(explains, notes);
-            outcome_of_unwritten_request(alloc)
-        }
+        Err(PutError::Unwritten) => outcome_of_unwritten_request(alloc),
         Err(PutError::OutOfMemory) => Err(AllocError),
     }
 }
@@ -117,7 +116,6 @@ fn outcome_of_request_put(
 fn outcome_of_put<H: Host>(
     alloc: Global,
     host: &mut H,
-    explains: bool,
     output: &str,
     left: Left,
     notes: &mut Notes,
@@ -129,14 +127,13 @@ fn outcome_of_put<H: Host>(
         (H.files host.new) (H.kept host.new) }
 {
     let put = host.put(alloc, output.as_bytes(), left.request.as_slice());
-    outcome_of_request_put(alloc, explains, put, left, notes)
+    outcome_of_request_put(alloc, put, left, notes)
 }
 
 // The same, where the path of an output is given.
 fn outcome_of_left<H: Host>(
     alloc: Global,
     host: &mut H,
-    explains: bool,
     output: Option<&str>,
     left: Left,
     notes: &mut Notes,
@@ -150,14 +147,15 @@ fn outcome_of_left<H: Host>(
 {
     match output {
         None => {
-            show_left(explains, left.notes.as_slice(), notes)?;
+            show_left(left.notes.as_slice(), notes)?;
             Ok(left.printed)
         }
-        Some(path) => outcome_of_put(alloc, host, explains, path, left, notes),
+        Some(path) => outcome_of_put(alloc, host, path, left, notes),
     }
 }
 
-// What is said of the request by the files of the host: what is left of it, as it is printed and written, or the refusal.
+// What is said of the request by the files of the host: what is left of it, as it is printed and written, or the refusal. Of an answer
+// that is explained what is told of it is shown, and the notes behind it.
 fn answer_of_possible<H: Host>(
     alloc: Global,
     host: &mut H,
@@ -186,6 +184,7 @@ fn answer_of_possible<H: Host>(
     };
     let question = KeepBack {
         limit,
+        tells_reasons: tells_reasons(explains, format),
         has_document: is_document(format),
     };
     let answer = ask_files(alloc, &mut shelf, &settings, &question, notes);
@@ -193,8 +192,17 @@ fn answer_of_possible<H: Host>(
     tell_left(&answer, notes)?;
     match answer {
         Ok(kept) => {
-            let sentences = notes.text.as_slice();
-            let left = left_of(alloc, &mut shelf, &settings, format, kept, sentences)?;
+            let reasons = reasons_in(&kept.answered.reasons);
+            let text = shown(alloc, explains, reasons, notes.text.as_slice())?;
+            let left = left_of(
+                alloc,
+                &mut shelf,
+                &settings,
+                format,
+                kept,
+                notes.text.as_slice(),
+            )?;
+            notes.text = text;
             Ok(Ok(left))
         }
         Err(refusal) => Ok(Err(refusal)),
@@ -223,7 +231,7 @@ pub(crate) fn outcome_of_possible<H: Host>(
 {
     want(arguments, notes);
     match answer_of_possible(alloc, host, arguments, limit, notes)? {
-        Ok(left) => outcome_of_left(alloc, host, arguments.explains, output, left, notes),
+        Ok(left) => outcome_of_left(alloc, host, output, left, notes),
         Err(refusal) => {
             show(arguments.explains, notes);
             outcome_of_refusal(alloc, &refusal)

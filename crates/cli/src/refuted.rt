@@ -6,10 +6,10 @@ ghost use Rattle.cli.specs.Members.{AreMembersOf, AreOfRefutation};
 ghost use Rattle.serde_json.specs.View.{members_view};
 
 use crate::arguments::Arguments;
-use crate::asking::{context_if, is_document, show, want};
+use crate::asking::{context_if, is_document, shown, tells_reasons, want};
 use crate::files::{HostShelf, Openings, ask_files};
 use crate::host::Host;
-use crate::members::members_of_refutation;
+use crate::members::{members_of_refutation, reasons_in};
 use crate::told::tell_refusal;
 use cli_engine::{CheckRefutation, JudgedRefutation, Notes, Refusal};
 use command_line::Format;
@@ -17,18 +17,26 @@ use json_answers::Members;
 use outcomes::{Outcome, outcome_in, outcome_of_refutation};
 use std::alloc::{AllocError, Global};
 
+// What is told of the answer.
+fn reasons_of(answer: &Result<JudgedRefutation, Refusal>) -> &[u8] {
+    match answer {
+        Ok(judged) => reasons_in(&judged.reasons),
+        Err(_) => &[],
+    }
+}
+
 // What a document has of the answer.
 fn members_of(
     alloc: Global,
     format: Format,
     answer: Result<JudgedRefutation, Refusal>,
-    sentences: &[u8],
+    hints: &[u8],
 ) -> Result<Members, AllocError>
     ensures { IfOk result (λ members.
         AreMembersOf AreOfRefutation format answer (members_view members.map.entries)) }
 {
     match answer {
-        Ok(judged) => members_of_refutation(alloc, format, judged, sentences),
+        Ok(judged) => members_of_refutation(alloc, format, judged, hints),
         Err(_) => Ok(Members::new(alloc)),
     }
 }
@@ -61,12 +69,14 @@ pub(crate) fn outcome_of_lines<H: Host>(
         openings: Openings::none(),
     };
     let question = CheckRefutation {
+        tells_reasons: tells_reasons(explains, format),
         has_document: is_document(format),
     };
     let answer = ask_files(alloc, &mut shelf, &settings, &question, notes);
     tell_refusal(alloc, &answer, &shelf, notes)?;
     let plain = outcome_of_refutation(alloc, &answer)?;
+    let text = shown(alloc, explains, reasons_of(&answer), notes.text.as_slice())?;
     let members = members_of(alloc, format, answer, notes.text.as_slice())?;
-    show(explains, notes);
+    notes.text = text;
     outcome_in(alloc, format, plain, members)
 }

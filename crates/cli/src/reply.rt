@@ -1,6 +1,8 @@
 //! The reply to a question of many: a line of JSON.
-ghost use Rattle.std.specs.Prelude.{◌≡◌, IfOk, List, codes, map, string_bytes};
+ghost use Rattle.std.specs.Prelude.{◌≡◌, ℕ, IfOk, List, None, codes, map, string_bytes, true};
+ghost use Rattle.std.specs.Option.{option_copied};
 ghost use Rattle.refusal_lines.specs.Lines as RefusalLines;
+ghost use Rattle.cli.specs.Again.{no_archives};
 ghost use Rattle.cli.specs.Batch.{IsRefusedIn, IsRefusedReply, IsReplyOf, IsReplyTo, IsReplyToLine, IsReplyWhere};
 ghost use Rattle.cli.specs.Members.{AreOfAnswered, AreOfCandidates, AreOfKept, AreOfPlan, AreOfRefutation};
 ghost use Rattle.cli_engine.specs.Answer.{IsSaidOfNames};
@@ -8,6 +10,7 @@ ghost use Rattle.cli_engine.specs.Meaning.{IsSaid};
 ghost use Rattle.cli_engine.specs.Refuted.{IsSaidOf};
 ghost use Rattle.cli_engine.specs.Solution.{IsSaidOfRequest};
 ghost use Rattle.json_answers.specs.Document.{IsLineOf, object_with};
+ghost use Rattle.inputs.specs.Inputs.{shelved};
 ghost use Rattle.inputs.specs.ReadAs.{AreReadAs, IsListed, asking};
 ghost use Rattle.inputs.specs.Texts.{Texts};
 ghost use Rattle.keep_back.specs.KeptBack.{IsSaidOfKept};
@@ -37,7 +40,10 @@ use std::alloc::{AllocError, Global};
 use universe_build::Listing;
 
 /// No texts: of a reply nothing is read a second time.
-pub(crate) fn no_texts<'t>() -> MemoryShelf<'t, 't> {
+pub(crate) fn no_texts<'t>() -> MemoryShelf<'t, 't>
+    ensures { (number : ℕ) (file : List ℕ)
+        → (shelved result.inputs (option_copied result.judged)).index number file ≡ None }
+{
     let inputs = Inputs {
         status: &[],
         sources: &[],
@@ -48,7 +54,8 @@ pub(crate) fn no_texts<'t>() -> MemoryShelf<'t, 't> {
     MemoryShelf::new(inputs, None)
 }
 
-// Notes that are wanted, since a document has them; what is told of inputs that change no answer is known before.
+// Notes that are wanted, since a document has them behind what is told of the answer; what is told of inputs that change no answer is known
+// before.
 fn wanted_notes(alloc: Global, idle: &[u8]) -> Result<Notes, AllocError> {
     let mut notes = Notes::new(alloc);
     notes.wanted = true;
@@ -127,21 +134,15 @@ fn reply_of_answered(
     settings: &Settings<'_>,
     id: Value,
     answered: Answered,
-    sentences: &[u8],
+    hints: &[u8],
 ) -> Result<Vec<u8>, AllocError>
     ensures { IfOk result (λ reply.
-        IsReplyOf (view id) (Lines.solved_text answered) (AreOfAnswered answered) reply.items) }
+        IsReplyOf (view id) (Lines.solved_text answered) (AreOfAnswered no_archives answered)
+        reply.items) }
 {
     let text = solved_text(alloc, &answered)?;
     let mut shelf = no_texts();
-    let members = members_of_answered(
-        alloc,
-        &mut shelf,
-        settings,
-        Format::Json,
-        answered,
-        sentences,
-    )?;
+    let members = members_of_answered(alloc, &mut shelf, settings, Format::Json, answered, hints)?;
     reply_of(alloc, id, text.as_slice(), members)
 }
 
@@ -151,10 +152,11 @@ fn reply_of_kept(
     settings: &Settings<'_>,
     id: Value,
     kept: KeptBack,
-    sentences: &[u8],
+    hints: &[u8],
 ) -> Result<Vec<u8>, AllocError>
     ensures { IfOk result (λ reply.
-        IsReplyOf (view id) (Lines.solved_text kept.answered) (AreOfKept kept) reply.items) }
+        IsReplyOf (view id) (Lines.solved_text kept.answered) (AreOfKept no_archives kept)
+        reply.items) }
 {
     let text = solved_text(alloc, &kept.answered)?;
     let KeptBack {
@@ -170,7 +172,7 @@ fn reply_of_kept(
         settings,
         Format::Json,
         answered,
-        sentences,
+        hints,
     )?;
     put_left(
         alloc,
@@ -188,15 +190,15 @@ fn reply_of_judged(
     settings: &Settings<'_>,
     id: Value,
     judged: &JudgedPlan,
-    sentences: &[u8],
+    hints: &[u8],
 ) -> Result<Vec<u8>, AllocError>
     ensures { IfOk result (λ reply.
         IsReplyOf (view id) (Lines.verdict_line judged.now.verdict)
-        (AreOfPlan judged.now) reply.items) }
+        (AreOfPlan no_archives judged.now) reply.items) }
 {
     let text = verdict_line(alloc, &judged.verdict)?;
     let mut shelf = no_texts();
-    let members = members_of_plan(alloc, &mut shelf, settings, Format::Json, judged, sentences)?;
+    let members = members_of_plan(alloc, &mut shelf, settings, Format::Json, judged, hints)?;
     reply_of(alloc, id, text.as_slice(), members)
 }
 
@@ -205,14 +207,14 @@ fn reply_of_lines(
     alloc: Global,
     id: Value,
     judged: JudgedRefutation,
-    sentences: &[u8],
+    hints: &[u8],
 ) -> Result<Vec<u8>, AllocError>
     ensures { IfOk result (λ reply.
         IsReplyOf (view id) (Lines.refutation_line judged.verdict)
         (AreOfRefutation judged) reply.items) }
 {
     let text = refutation_line(alloc, &judged.verdict)?;
-    let members = members_of_refutation(alloc, Format::Json, judged, sentences)?;
+    let members = members_of_refutation(alloc, Format::Json, judged, hints)?;
     reply_of(alloc, id, text.as_slice(), members)
 }
 
@@ -230,12 +232,13 @@ fn reply_to_solve<'i, 'a>(
     requires { IsListed before.now listing.now }
     ensures { (texts : Texts) → AreReadAs texts before.now
         → IfOk result (λ reply. IsReplyWhere (view id)
-        (IsSaidOfRequest
-        (asking request.now texts) limit names_pairs) Lines.solved_text AreOfAnswered reply.items) }
+        (IsSaidOfRequest (asking request.now texts) limit names_pairs true true)
+        Lines.solved_text (AreOfAnswered no_archives) reply.items) }
 {
     let question = Solve {
         limit,
         names_pairs,
+        tells_reasons: true,
         has_document: true,
     };
     let mut notes = wanted_notes(alloc, idle)?;
@@ -259,12 +262,14 @@ fn reply_to_keep_back(
 ) -> Result<Vec<u8>, AllocError>
     ensures { (texts : Texts) → AreReadAs texts before.now
         → IfOk result (λ reply. IsReplyWhere (view id)
-        (IsSaidOfKept (asking request.items texts) limit)
-        (λ kept. Lines.solved_text kept.answered) AreOfKept reply.items) }
+        (IsSaidOfKept (asking request.items texts) limit true true)
+        (λ kept. Lines.solved_text kept.answered) (AreOfKept no_archives) reply.items) }
 {
     let mut notes = wanted_notes(alloc, idle)?;
     let mut shelf = no_texts();
-    match keep(alloc, &mut shelf, before, request, limit, true, &mut notes) {
+    match keep(
+        alloc, &mut shelf, before, request, limit, true, true, &mut notes,
+    ) {
         Ok(kept) => {
             tell_undecided(&kept.answered.solved, &mut notes)?;
             reply_of_kept(alloc, before.settings, id, kept, notes.text.as_slice())
@@ -286,8 +291,8 @@ fn reply_to_plan<'i, 'a>(
     requires { IsListed before.now listing.now }
     ensures { (texts : Texts) → AreReadAs texts before.now
         → IfOk result (λ reply. IsReplyWhere (view id)
-        (IsSaid (asking request.now texts) (Some plan.now))
-        (λ judged. Lines.verdict_line judged.verdict) AreOfPlan reply.items) }
+        (IsSaid (asking request.now texts) (Some plan.now) true)
+        (λ judged. Lines.verdict_line judged.verdict) (AreOfPlan no_archives) reply.items) }
 {
     let question = GivenPlan { plan };
     let mut notes = wanted_notes(alloc, idle)?;
@@ -313,7 +318,7 @@ fn reply_to_refutation<'i, 'a>(
     requires { IsListed before.now listing.now }
     ensures { (texts : Texts) → AreReadAs texts before.now
         → IfOk result (λ reply. IsReplyWhere (view id)
-        (IsSaidOf (asking request.now texts) (Some refutation.now))
+        (IsSaidOf (asking request.now texts) (Some refutation.now) true true)
         (λ judged. Lines.refutation_line judged.verdict)
         AreOfRefutation reply.items) }
 {

@@ -1,15 +1,17 @@
 //! A request, solved by the files of a host.
 ghost use Rattle.std.specs.Prelude.{◌≡◌, IfOk, Some};
+ghost use Rattle.cli.specs.Again.{archives_by};
 ghost use Rattle.cli.specs.Calls.{IsOutcomeOfRequest, texts_at};
 ghost use Rattle.cli.specs.Files.{Files};
 ghost use Rattle.cli.specs.Members.{AreMembersOf, AreOfAnswered};
+ghost use Rattle.inputs.specs.Texts.{Shelved, texts_of};
 ghost use Rattle.serde_json.specs.View.{members_view};
 
 use crate::arguments::Arguments;
-use crate::asking::{context_if, is_document, show, want};
+use crate::asking::{context_if, is_document, shown, tells_reasons, want};
 use crate::files::{HostShelf, Openings, ask_files};
 use crate::host::Host;
-use crate::members::members_of_answered;
+use crate::members::{members_of_answered, reasons_in};
 use crate::told::{tell_refusal, tell_undecided};
 use cli_engine::{Answered, Notes, Refusal, Settings, Solve};
 use command_line::Format;
@@ -26,6 +28,14 @@ fn tell_answered(answer: &Result<Answered, Refusal>, notes: &mut Notes) -> Resul
     }
 }
 
+// What is told of the answer.
+fn reasons_of(answer: &Result<Answered, Refusal>) -> &[u8] {
+    match answer {
+        Ok(answered) => reasons_in(&answered.reasons),
+        Err(_) => &[],
+    }
+}
+
 // What a document has of the answer.
 fn members_of<S: Shelf>(
     alloc: Global,
@@ -33,14 +43,16 @@ fn members_of<S: Shelf>(
     settings: &Settings<'_>,
     format: Format,
     answer: Result<Answered, Refusal>,
-    sentences: &[u8],
+    hints: &[u8],
 ) -> Result<Members, AllocError>
-    ensures members { IfOk result (λ members.
-        AreMembersOf AreOfAnswered format answer (members_view members.map.entries)) }
+    ensures members { (at : Shelved) → S.known_texts shelf.old ≡ Some at
+        → IfOk result (λ members.
+        AreMembersOf (AreOfAnswered (archives_by (texts_of settings.now at))) format answer
+        (members_view members.map.entries)) }
     ensures held { S.holds shelf.old shelf.new }
 {
     match answer {
-        Ok(answered) => { members_of_answered(alloc, shelf, settings, format, answered, sentences) }
+        Ok(answered) => { members_of_answered(alloc, shelf, settings, format, answered, hints) }
         Err(_) => Ok(Members::new(alloc)),
     }
 }
@@ -77,12 +89,14 @@ pub(crate) fn outcome_of_request<H: Host>(
     let question = Solve {
         limit,
         names_pairs,
+        tells_reasons: tells_reasons(explains, format),
         has_document: is_document(format),
     };
     let answer = ask_files(alloc, &mut shelf, &settings, &question, notes);
     tell_refusal(alloc, &answer, &shelf, notes)?;
     tell_answered(&answer, notes)?;
     let plain = outcome_of_solved(alloc, &answer)?;
+    let text = shown(alloc, explains, reasons_of(&answer), notes.text.as_slice())?;
     let members = members_of(
         alloc,
         &mut shelf,
@@ -91,6 +105,6 @@ pub(crate) fn outcome_of_request<H: Host>(
         answer,
         notes.text.as_slice(),
     )?;
-    show(explains, notes);
+    notes.text = text;
     outcome_in(alloc, format, plain, members)
 }

@@ -1,4 +1,5 @@
 pub mod AnswerLemmas
 pub mod NameLemmas
 pub mod RefutedLemmas
+pub mod RightLemmas
 pub mod SolvableLemmas

@@ -63,15 +63,16 @@ wanting texts refutation u start written refused is read (inr fails) =
     absurd (not-both written refused.fault (refutation_of refutation) read fails.fault)
 
 pub accepted-is-answered : AcceptedRefutationIsAnswered
-accepted-is-answered texts refutation u start written (Ok judged) is read accepted said = inl (
+accepted-is-answered texts refutation u start written tells_reasons has_document (Ok judged) is read accepted said = inl (
   judged,
   refl,
   one-answer texts refutation judged.verdict verdict.Yes said.answer
       (record { universe = u; start = start; written = written; denoted = is; read = read; holds = accepted }),
 )
-accepted-is-answered texts refutation u start written (Err refused) is read accepted first =
+accepted-is-answered texts refutation u start written tells_reasons has_document (Err refused) is read accepted first =
     inr (ap Err (wanting texts refutation u start written refused is read first))
 
 pub meaning-is-answered : MeaningIsAnswered
-meaning-is-answered texts u start limit names_pairs (Ok answered) is answer = inl (answered, refl)
-meaning-is-answered texts u start limit names_pairs (Err refused) is first = inr (ap Err (meaning_is_not_refused texts u start refused is first))
+meaning-is-answered texts u start limit names_pairs tells_reasons has_document (Ok answered) is answer = inl (answered, refl)
+meaning-is-answered texts u start limit names_pairs tells_reasons has_document (Err refused) is first =
+    inr (ap Err (meaning_is_not_refused texts u start refused is first))

@@ -1,6 +1,7 @@
 pub mod Answer
 pub mod Comparison
-pub mod Good
 pub mod Meaning
+pub mod Reasons
 pub mod Refuted
+pub mod Right
 pub mod Solution

@@ -1,9 +1,10 @@
 -- What follows from what the texts denote: a plan has one answer, and what the answer yes promises.
-use Rattle.std.specs.Prelude.{◌≡◌, ◌⊎◌, List, Result, Ok, Err}
+use Rattle.std.specs.Prelude.{◌≡◌, ◌⊎◌, Bool, List, Result, Ok, Err}
 use Rattle.inputs.specs.Meaning.{Denotes}
 use Rattle.inputs.specs.Reading.{out_of_memory}
 use Rattle.inputs.specs.Texts.{Found, Texts}
 use Rattle.inputs.specs.declared.refusal.Refusal.{Refusal}
+use Rattle.plan_sentences.specs.No.{TellsVerdict}
 use Rattle.rules.specs.Database.{Record}
 use Rattle.rules.specs.PlanLaws.{KeepsPromise}
 use Rattle.rules.specs.Run.{IsGoodPlan}
@@ -12,6 +13,7 @@ use Rattle.rules.specs.declared.step.Step.{Step}
 use Rattle.rules.specs.declared.step.Verdict.{Verdict}
 use Rattle.rules.specs.declared.step.Verdict.TheVariants as verdict
 use Rattle.cli_engine.specs.Answer.{IsAnswer, IsFirstRefusal, plan_of}
+use Rattle.cli_engine.specs.Reasons.{HasWhere}
 use Rattle.cli_engine.specs.declared.check.JudgedPlan.{JudgedPlan}
 
 -- a plan has one answer
@@ -37,15 +39,16 @@ pub record IsPromised (texts : Texts) (plan : Found) : Type 0 where
 abbrev pub YesKeepsPromise : Type 0
 YesKeepsPromise = (texts : Texts) (plan : Found) → IsAnswer texts plan verdict.Yes → IsPromised texts plan
 
--- the verdict is true of the plan, and the steps are those that it is read as
-pub record IsJudged (texts : Texts) (plan : Found) (judged : JudgedPlan) : Type 0 where
+-- the verdict is true of the plan, the steps are those that it is read as, and where reasons are wanted they tell the verdict
+pub record IsJudged (texts : Texts) (plan : Found) (tells_reasons : Bool) (judged : JudgedPlan) : Type 0 where
   pub answer : IsAnswer texts plan judged.verdict
   pub read : plan_of plan ≡ Ok judged.steps.items
+  pub reasons : HasWhere tells_reasons (TellsVerdict answer.universe answer.start answer.steps judged.verdict) judged.reasons
 
--- what is said of a plan: its answer, or the first refusal
-abbrev pub IsSaid : Texts → Found → Result JudgedPlan Refusal → Type 0
-IsSaid texts plan (Ok judged) = IsJudged texts plan judged
-IsSaid texts plan (Err refused) = IsFirstRefusal texts plan refused
+-- what is said of a plan: its answer, with the reasons where they are wanted, or the first refusal
+abbrev pub IsSaid : Texts → Found → Bool → Result JudgedPlan Refusal → Type 0
+IsSaid texts plan tells_reasons (Ok judged) = IsJudged texts plan tells_reasons judged
+IsSaid texts plan tells_reasons (Err refused) = IsFirstRefusal texts plan refused
 
 -- yes is said of a plan
 abbrev pub IsYes : Result JudgedPlan Refusal → Type 0
@@ -53,6 +56,6 @@ IsYes said = (judged : JudgedPlan) × (said ≡ Ok judged) × (judged.verdict �
 
 -- of a plan that is read and good, over what the texts denote, yes is said, or that memory was wanting
 abbrev pub GoodPlanIsAnswered : Type 0
-GoodPlanIsAnswered = (texts : Texts) (plan : Found) (u : Universe) (start : List Record) (steps : List Step)
-    (said : Result JudgedPlan Refusal) → IsReadAs texts plan u start steps → IsGoodPlan u start steps → IsSaid texts plan said
-    → IsYes said ⊎ (said ≡ Err out_of_memory)
+GoodPlanIsAnswered = (texts : Texts) (plan : Found) (u : Universe) (start : List Record) (steps : List Step) (tells_reasons : Bool)
+    (said : Result JudgedPlan Refusal) → IsReadAs texts plan u start steps → IsGoodPlan u start steps
+    → IsSaid texts plan tells_reasons said → IsYes said ⊎ (said ≡ Err out_of_memory)

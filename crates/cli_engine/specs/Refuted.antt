@@ -1,6 +1,7 @@
 -- What is answered of a refutation by the texts, which refusal comes first, and what the answer yes says.
 use Rattle.std.specs.Prelude.{◌≡◌, ◌⊎◌, ℕ, Bool, List, Result, Ok, Err}
-use Rattle.inputs.specs.Meaning.{Denotes}
+use Rattle.inputs.specs.Before.{HasIndices}
+use Rattle.inputs.specs.Meaning.{Denotes, DenotesAsked}
 use Rattle.inputs.specs.Reading.{out_of_memory, with_fault}
 use Rattle.inputs.specs.Refused.{IsRefusal}
 use Rattle.inputs.specs.Texts.{Found, Texts, read_found}
@@ -10,12 +11,14 @@ use Rattle.inputs.specs.declared.refusal.Input.TheVariants as place
 use Rattle.inputs.specs.declared.refusal.Refusal.{Refusal}
 use Rattle.refutecheck.specs.declared.verdict.Verdict.{Verdict}
 use Rattle.refutecheck.specs.declared.verdict.Verdict.TheVariants as verdict
+use Rattle.rules.specs.Available.{Index}
 use Rattle.rules.specs.Database.{Record}
 use Rattle.rules.specs.Sound.{IsAcceptable}
 use Rattle.rules.specs.Universe.{Universe}
 use Rattle.written_refutation.specs.Judged.{IsWrittenAccepted, IsWrittenVerdict, lines_of}
 use Rattle.written_refutation.specs.Written.{read_written}
 use Rattle.written_refutation.specs.declared.written.WrittenRefutation.{WrittenRefutation}
+use Rattle.cli_engine.specs.Reasons.{HasWhere, TellsRefutation}
 use Rattle.cli_engine.specs.Solution.{HasLines}
 use Rattle.cli_engine.specs.declared.check_refutation.JudgedRefutation.{JudgedRefutation}
 
@@ -61,17 +64,23 @@ abbrev pub RefutationHasOneAnswer : Type 0
 RefutationHasOneAnswer = (texts : Texts) (refutation : Found) (first second : Verdict)
     → IsRefutationAnswer texts refutation first → IsRefutationAnswer texts refutation second → first ≡ second
 
--- the verdict is true of the refutation, where it is yes no set of admitted pairs is acceptable, and where a document has lines they are
--- those by numbers
-pub record IsJudgedRefutation (texts : Texts) (refutation : Found) (judged : JudgedRefutation) : Type 0 where
+-- the verdict is true of the refutation, where it is yes no set of admitted pairs is acceptable, where reasons are wanted they tell the
+-- verdict, and where there is a document it has the lines by numbers
+pub record IsJudgedRefutation (texts : Texts) (refutation : Found) (tells_reasons has_document : Bool) (judged : JudgedRefutation) : Type 0 where
   pub answer : IsRefutationAnswer texts refutation judged.verdict
   pub refuted : judged.verdict ≡ verdict.Yes → AreRefuted texts
-  pub lines : HasLines answer.universe (lines_of answer.universe.pairs answer.written).lines judged.members
+  pub all_versions : Bool
+  pub asked : DenotesAsked texts answer.universe answer.start all_versions
+  pub indices : List Index
+  pub indexed : HasIndices texts indices
+  pub reasons : HasWhere tells_reasons (TellsRefutation answer.universe indices (lines_of answer.universe.pairs answer.written) all_versions judged.verdict) judged.reasons
+  pub lines : HasLines answer.universe has_document (lines_of answer.universe.pairs answer.written).lines judged.members
 
--- what is said of a refutation: its answer, or the first refusal
-abbrev pub IsSaidOf : Texts → Found → Result JudgedRefutation Refusal → Type 0
-IsSaidOf texts refutation (Ok judged) = IsJudgedRefutation texts refutation judged
-IsSaidOf texts refutation (Err refused) = IsFirstRefutationRefusal texts refutation refused
+-- what is said of a refutation: its answer, with the reasons where they are wanted and the lines where there is a document, or the first
+-- refusal
+abbrev pub IsSaidOf : Texts → Found → Bool → Bool → Result JudgedRefutation Refusal → Type 0
+IsSaidOf texts refutation tells_reasons has_document (Ok judged) = IsJudgedRefutation texts refutation tells_reasons has_document judged
+IsSaidOf texts refutation tells_reasons has_document (Err refused) = IsFirstRefutationRefusal texts refutation refused
 
 -- yes is said of a refutation
 abbrev pub IsYes : Result JudgedRefutation Refusal → Type 0
@@ -80,5 +89,5 @@ IsYes said = (judged : JudgedRefutation) × (said ≡ Ok judged) × (judged.verd
 -- of a refutation that is read and accepted, over what the texts denote, yes is said, or that memory was wanting
 abbrev pub AcceptedRefutationIsAnswered : Type 0
 AcceptedRefutationIsAnswered = (texts : Texts) (refutation : Found) (u : Universe) (start : List Record) (written : WrittenRefutation)
-    (said : Result JudgedRefutation Refusal) → Denotes texts u start → refutation_of refutation ≡ Ok written
-    → IsWrittenAccepted u written → IsSaidOf texts refutation said → IsYes said ⊎ (said ≡ Err out_of_memory)
+    (tells_reasons has_document : Bool) (said : Result JudgedRefutation Refusal) → Denotes texts u start → refutation_of refutation ≡ Ok written
+    → IsWrittenAccepted u written → IsSaidOf texts refutation tells_reasons has_document said → IsYes said ⊎ (said ≡ Err out_of_memory)

@@ -1,29 +1,26 @@
 //! A plan and a refutation that are given, each judged over the universe of a request.
-ghost use Rattle.std.specs.Prelude.{◌≡◌, Some, false, refl};
+ghost use Rattle.std.specs.Prelude.{◌≡◌, Some, false, refl, true};
 ghost use mathlib.Core.Logic.{inl};
 ghost use Rattle.cli_engine.specs.Meaning.{IsSaid};
 ghost use Rattle.cli_engine.specs.Refuted.{IsSaidOf};
 
-use crate::check::{JudgedPlan, judge};
-use crate::check_refutation::{JudgedRefutation, written_of};
-use crate::judged::tell_judged;
+use crate::check::{JudgedPlan, judged_plan};
+use crate::check_refutation::{JudgedRefutation, judged_refutation, written_of};
 use crate::laws::yes_refutes;
-use crate::lines::members_of;
 use crate::notes::Notes;
 use crate::plan::steps_of;
-use crate::refuted::tell_accepted;
 use inputs::{Before, OverRequest, Refusal, Requested};
 use std::alloc::Global;
-use written_refutation::{JudgedLines, check_written};
 
-/// Judges the plan with this text, as `CheckPlan` judges that of a shelf.
+/// Judges the plan with this text, as `CheckPlan` judges that of a shelf. Its reasons are told.
 #[derive(Clone, Copy)]
 pub struct GivenPlan<'t> {
     /// The text of the plan.
     pub plan: &'t [u8],
 }
 
-/// Judges the refutation with this text, as `CheckRefutation` judges that of a shelf. A document of the answer has its lines.
+/// Judges the refutation with this text, as `CheckRefutation` judges that of a shelf. Its reasons are told, and a document of the answer
+/// has its lines.
 #[derive(Clone, Copy)]
 pub struct GivenRefutation<'t> {
     /// The text of the refutation.
@@ -35,7 +32,7 @@ impl<'t> OverRequest for GivenPlan<'t> {
 
     type Beside = Notes;
 
-    ghost says = { λ it texts _ result _. IsSaid texts (Some it.plan.now) result };
+    ghost says = { λ it texts _ result _. IsSaid texts (Some it.plan.now) true result };
 
     ghost keeps = { λ _ old _ new. old.wanted ≡ false → new ≡ old };
 
@@ -46,11 +43,9 @@ impl<'t> OverRequest for GivenPlan<'t> {
         requested: &Requested<'_, 'a>,
         notes: &mut Notes,
     ) -> Result<JudgedPlan, Refusal> {
-        let universe = &requested.universe;
         let steps = steps_of(alloc, self.plan)?;
-        let verdict = judge(alloc, before.status_file, universe, steps.as_slice())?;
-        tell_judged(alloc, before, universe, steps.as_slice(), &verdict, notes)?;
-        Ok(JudgedPlan { verdict, steps })
+        let judged = judged_plan(alloc, before, &requested.universe, steps, true, notes)?;
+        Ok(judged)
     }
 
     ghost refuses = { λ _ _ _ _ is. inl is };
@@ -63,7 +58,7 @@ impl<'t> OverRequest for GivenRefutation<'t> {
 
     type Beside = Notes;
 
-    ghost says = { λ it texts _ result _. IsSaidOf texts (Some it.refutation.now) result };
+    ghost says = { λ it texts _ result _. IsSaidOf texts (Some it.refutation.now) true true result };
 
     ghost keeps = { λ _ old _ new. old.wanted ≡ false → new ≡ old };
 
@@ -75,20 +70,9 @@ impl<'t> OverRequest for GivenRefutation<'t> {
         notes: &mut Notes,
     ) -> Result<JudgedRefutation, Refusal> {
         yes_refutes();
-        let universe = &requested.universe;
         let written = written_of(alloc, self.refutation)?;
-        let JudgedLines { verdict, numbered } = check_written(alloc, universe, written)?;
-        let members = members_of(alloc, universe, &numbered.lines, true)?;
-        tell_accepted(
-            alloc,
-            before,
-            universe,
-            &numbered,
-            verdict,
-            requested.asks_all_versions,
-            notes,
-        )?;
-        Ok(JudgedRefutation { verdict, members })
+        let judged = judged_refutation(alloc, before, requested, written, true, true, notes)?;
+        Ok(judged)
     }
 
     ghost refuses = { λ _ _ _ _ is. inl is };

@@ -1,20 +1,20 @@
-//! What a verdict on a plan is about, told where that is wanted.
-ghost use Rattle.std.specs.Prelude.{◌≡◌, false};
+//! What is told of the verdict on a plan, where that is wanted.
+ghost use Rattle.std.specs.Prelude.{IfOk};
+ghost use Rattle.plan_sentences.specs.No.{TellsVerdict};
 ghost use Rattle.rules.specs.Verdict.{IsBuiltOn, IsVerdict};
 ghost use Rattle.status_text.specs.Slot.{slot_records};
+ghost use Rattle.cli_engine.specs.Reasons.{HasWhere};
 
-use crate::notes::Notes;
-use crate::requested::tell_idle_inputs;
-use inputs::Before;
 use plan_sentences::verdict_sentences;
 use plancheck_state::{parse_packages, view};
-use rules::{Step, Verdict};
+use rules::{Items, Step, Verdict};
 use status_text::StatusFile;
 use std::alloc::{AllocError, Global};
 use universe::Universe;
 
-// The sentences on the verdict of these steps from this status file on.
-fn sentences_on<'a>(
+/// The sentences on the verdict of these steps from this status file on. The packages of the status file are parsed once more for
+/// them. Memory alone can fail.
+pub(crate) fn sentences_on<'a>(
     alloc: Global,
     status_file: &StatusFile<'a>,
     universe: &Universe<'_, 'a>,
@@ -24,6 +24,8 @@ fn sentences_on<'a>(
     requires built { IsBuiltOn (slot_records status_file.now.slots) universe.now }
     requires verdict { IsVerdict universe.now
         (slot_records status_file.now.slots) steps.now verdict.now }
+    ensures { IfOk result (λ text. TellsVerdict universe.now
+        (slot_records status_file.now.slots) steps.now verdict.now text.items) }
 {
     let records = status_file.records(alloc)?;
     let packages = parse_packages(alloc, records.as_slice())?;
@@ -32,42 +34,25 @@ fn sentences_on<'a>(
     Ok(text)
 }
 
-/// Tells what stands against the plan, if its verdict is a no, and what it changes, if it is yes, where that is wanted. The packages of
-/// the status file are parsed once more for it. Memory alone can fail.
-pub(crate) fn tell_verdict<'a>(
+/// What stands against the plan, if its verdict is a no, and what it changes, if it is yes, where that is wanted. It costs what
+/// `sentences_on` costs. Memory alone can fail.
+pub(crate) fn reasons_of_plan<'a>(
     alloc: Global,
     status_file: &StatusFile<'a>,
     universe: &Universe<'_, 'a>,
     steps: &[Step],
     verdict: &Verdict,
-    notes: &mut Notes,
-) -> Result<(), AllocError>
+    tells_reasons: bool,
+) -> Result<Option<Items<u8>>, AllocError>
     requires built { IsBuiltOn (slot_records status_file.now.slots) universe.now }
     requires verdict { IsVerdict universe.now
         (slot_records status_file.now.slots) steps.now verdict.now }
-    ensures unasked { notes.old.wanted ≡ false → notes.new ≡ notes.old }
+    ensures { IfOk result (HasWhere tells_reasons
+        (TellsVerdict universe.now (slot_records status_file.now.slots) steps.now verdict.now)) }
 {
-    if !notes.wanted {
-        return Ok(());
+    if !tells_reasons {
+        return Ok(None);
     }
     let text = sentences_on(alloc, status_file, universe, steps, verdict)?;
-    notes.add(text.as_slice())
-}
-
-/// Tells of the verdict what `tell_verdict` tells, and behind it which of the inputs change no answer, where that is wanted.
-pub(crate) fn tell_judged<'a>(
-    alloc: Global,
-    before: &Before<'_, '_, '_, '_, '_, '_, '_, 'a>,
-    universe: &Universe<'_, 'a>,
-    steps: &[Step],
-    verdict: &Verdict,
-    notes: &mut Notes,
-) -> Result<(), AllocError>
-    requires built { IsBuiltOn (slot_records before.now.status_file.now.slots) universe.now }
-    requires verdict { IsVerdict universe.now
-        (slot_records before.now.status_file.now.slots) steps.now verdict.now }
-    ensures unasked { notes.old.wanted ≡ false → notes.new ≡ notes.old }
-{
-    tell_verdict(alloc, before.status_file, universe, steps, verdict, notes)?;
-    tell_idle_inputs(alloc, before, notes)
+    Ok(Some(Items::new(text)))
 }

@@ -1,8 +1,15 @@
-//! The lines of a refutation, as a document of an answer has them.
-ghost use Rattle.std.specs.Prelude.{◌≡◌, IfOk, is_some};
+//! What stands beside an answer to a request: the text of a refutation with its pairs named, its lines as a document has them, and what is
+//! told of the answer.
+ghost use Rattle.std.specs.Prelude.{◌≡◌, IfOk};
+ghost use Rattle.candidates.specs.Inputs.{indices_of};
+ghost use Rattle.inputs.specs.ReadAs.{IsOver, start_of};
+ghost use Rattle.cli_engine.specs.Reasons.{HasWhere, TellsSolved};
+ghost use Rattle.cli_engine.specs.Right.{IsRight};
 ghost use Rattle.cli_engine.specs.Solution.{HasLines, HasSolvedLines, naming_for};
 
+use crate::reasons::reasons_of_solved;
 use crate::solve::Answered;
+use inputs::{Before, Requested};
 use json_answers::{Members, put_lines};
 use refutation::Refutation;
 use rules::Items;
@@ -19,8 +26,7 @@ pub(crate) fn members_of(
     refutation: &Refutation,
     has_document: bool,
 ) -> Result<Option<Members>, AllocError>
-    ensures there { IfOk result (λ members. is_some members ≡ has_document) }
-    ensures lines { IfOk result (HasLines universe.now refutation.now) }
+    ensures { IfOk result (HasLines universe.now has_document refutation.now) }
 {
     if !has_document {
         return Ok(None);
@@ -60,7 +66,7 @@ fn solved_members(
     solved: &Solved,
     has_document: bool,
 ) -> Result<Option<Members>, AllocError>
-    ensures { IfOk result (HasSolvedLines universe.now solved.now) }
+    ensures { IfOk result (HasSolvedLines universe.now has_document solved.now) }
 {
     match solved {
         Solved::Refuted(refutation) => members_of(alloc, universe, refutation, has_document),
@@ -69,29 +75,42 @@ fn solved_members(
     }
 }
 
-/// What is answered where the request of the universe is solved so, with the text of a refutation whose pairs are named, where that is
-/// asked for, and what a document has of its lines, where there is to be one. Memory alone can fail.
-pub fn answer_of_solved(
+/// What is answered where the request is solved so, with the text of a refutation whose pairs are named, where that is asked for, what is
+/// told of the answer, where that is wanted, and what a document has of the lines of a refutation, where there is to be one. Memory alone
+/// can fail.
+pub fn answer_of_solved<'a>(
     alloc: Global,
-    universe: &Universe<'_, '_>,
+    before: &Before<'_, '_, '_, '_, '_, '_, '_, 'a>,
+    requested: &Requested<'_, 'a>,
     solved: Solved,
-    asks_all_versions: bool,
     names_pairs: bool,
+    tells_reasons: bool,
     has_document: bool,
 ) -> Result<Answered, AllocError>
+    requires over { IsOver before.now requested.now.universe }
+    requires right { IsRight requested.now.universe (start_of before.now) solved }
     ensures solved { IfOk result (λ answered. answered.solved ≡ solved) }
-    ensures asks { IfOk result (λ answered. answered.asks_all_versions ≡ asks_all_versions) }
+    ensures asks { IfOk result
+        (λ answered. answered.asks_all_versions ≡ requested.now.asks_all_versions) }
     ensures naming { IfOk result
-        (λ answered. answered.naming ≡ naming_for names_pairs universe.now.pairs solved) }
-    ensures lines { IfOk result
-        (λ answered. HasSolvedLines universe.now answered.solved answered.members) }
+        (λ answered. answered.naming ≡ naming_for names_pairs requested.now.universe.pairs solved) }
+    ensures reasons { IfOk result
+        (λ answered. HasWhere tells_reasons
+        (TellsSolved requested.now.universe
+        (indices_of before.now.indices.now) (start_of before.now)
+        answered.asks_all_versions answered.solved) answered.reasons) }
+    ensures lines { IfOk result (λ answered.
+        HasSolvedLines requested.now.universe has_document answered.solved answered.members) }
 {
+    let universe = &requested.universe;
     let naming = naming_of(alloc, universe, &solved, names_pairs)?;
+    let reasons = reasons_of_solved(alloc, before, requested, &solved, tells_reasons)?;
     let members = solved_members(alloc, universe, &solved, has_document)?;
     Ok(Answered {
         solved,
-        asks_all_versions,
+        asks_all_versions: requested.asks_all_versions,
         naming,
+        reasons,
         members,
     })
 }

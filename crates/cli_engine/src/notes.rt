@@ -1,10 +1,11 @@
-//! What is told of an answer beside it.
+//! What is told beside an answer.
 ghost use Rattle.std.specs.Prelude.{◌≡◌, ◌++◌, OnOk, [], false, if◌then◌else◌};
 
 use std::alloc::{AllocError, Global};
 
-/// What is told of an answer beside it, where that is wanted: sentences for a person to read. It is no part of the answer, and its
-/// words aren't promised.
+/// What is told beside an answer, where that is wanted: sentences for a person to read, on inputs that change no answer and on who provides
+/// a name that no package has. It is no part of the answer, and its words aren't promised. What is told of the answer itself is a part of
+/// it.
 #[derive(Drop)]
 pub struct Notes {
     /// Whether anything is wanted.

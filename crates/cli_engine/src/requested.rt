@@ -35,7 +35,7 @@ fn idle_in(
 
 /// Tells which of the inputs change no answer, where that is wanted. Where the notes don't have it, it costs what `input_notes::idle_inputs`
 /// costs. Memory alone can fail.
-pub(crate) fn tell_idle_inputs(
+pub fn tell_idle_inputs(
     alloc: Global,
     before: &Before<'_, '_, '_, '_, '_, '_, '_, '_>,
     notes: &mut Notes,

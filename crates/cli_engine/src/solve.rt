@@ -7,8 +7,7 @@ ghost use Rattle.cli_engine.specs.Solution.{IsSaidOfRequest};
 
 use crate::lines::answer_of_solved;
 use crate::notes::Notes;
-use crate::refuted::tell_solved;
-use crate::requested::read_asked;
+use crate::requested::{read_asked, tell_idle_inputs};
 use inputs::{Before, OverRequest, Question, Refusal, Requested, Shelf};
 use json_answers::Members;
 use plancheck_state::{parse_packages, view};
@@ -26,20 +25,24 @@ pub struct Answered {
     pub asks_all_versions: bool,
     /// The text of a refutation with its pairs named, where that is asked for.
     pub naming: Option<Items<u8>>,
+    /// What is told of the answer, each sentence a line of its own, where that is wanted.
+    pub reasons: Option<Items<u8>>,
     /// What a document has of the lines of a refutation, where there is to be one.
     pub members: Option<Members>,
 }
 
 /// Solves the request: a plan that is good over what the texts denote; a refutation that is accepted over it, so that no set of admitted
 /// pairs is acceptable; or why it is undecided; with whether the request asks for all versions; or the first refusal in the order
-/// status, sources, indices, preferences, request. Solving costs what `solver::solve` says. Sentences on the answer are told, where they
-/// are wanted.
+/// status, sources, indices, preferences, request. Solving costs what `solver::solve` says. Sentences on inputs are told, where they are
+/// wanted.
 #[derive(Clone, Copy)]
 pub struct Solve {
     /// How many conflicts the search may have.
     pub limit: u32,
     /// Whether a refutation is written with its pairs named too.
     pub names_pairs: bool,
+    /// Whether the reasons of a refutation are told, and what a plan changes.
+    pub tells_reasons: bool,
     /// Whether there is to be a document of the answer, which has the lines of a refutation.
     pub has_document: bool,
 }
@@ -66,7 +69,8 @@ impl OverRequest for Solve {
 
     type Beside = Notes;
 
-    ghost says = { λ it texts _ result _. IsSaidOfRequest texts it.limit it.names_pairs result };
+    ghost says = { λ it texts _ result _.
+        IsSaidOfRequest texts it.limit it.names_pairs it.tells_reasons it.has_document result };
 
     ghost keeps = { λ _ old _ new. old.wanted ≡ false → new ≡ old };
 
@@ -77,18 +81,17 @@ impl OverRequest for Solve {
         requested: &Requested<'_, 'a>,
         notes: &mut Notes,
     ) -> Result<Answered, Refusal> {
-        let universe = &requested.universe;
-        let solved = solve_over(alloc, before, universe, self.limit)?;
-        let asks_all_versions = requested.asks_all_versions;
+        let solved = solve_over(alloc, before, &requested.universe, self.limit)?;
         let answer = answer_of_solved(
             alloc,
-            universe,
+            before,
+            requested,
             solved,
-            asks_all_versions,
             self.names_pairs,
+            self.tells_reasons,
             self.has_document,
         )?;
-        tell_solved(alloc, before, universe, &answer, notes)?;
+        tell_idle_inputs(alloc, before, notes)?;
         Ok(answer)
     }
 
@@ -102,7 +105,8 @@ impl Question for Solve {
 
     type Beside = Notes;
 
-    ghost says = { λ it texts _ _ result _. IsSaidOfRequest texts it.limit it.names_pairs result };
+    ghost says = { λ it texts _ _ result _.
+        IsSaidOfRequest texts it.limit it.names_pairs it.tells_reasons it.has_document result };
 
     ghost keeps = { λ _ _ old _ new. old.wanted ≡ false → new ≡ old };
 

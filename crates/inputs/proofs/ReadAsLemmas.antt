@@ -49,6 +49,15 @@ asking-same texts request there = ap (λ (text : Found). record {
   request = text;
 }) (sym there)
 
+-- the indices are read alike, whatever the request is
+pub indexed-asking : (texts : Texts) (request : List ℕ) (indices : List Index) → HasIndices texts indices
+    → HasIndices (asking request texts) indices
+indexed-asking texts request indices is = record {
+  sources = is.sources;
+  sources_are = is.sources_are;
+  indices_are = is.indices_are;
+}
+
 -- the texts before the request are read alike, whatever the request is
 pub read-asking : (texts : Texts) (request : List ℕ) (start : List Record) (indices : List Index) (prefs : Preferences)
     → AreRead texts start indices prefs → AreRead (asking request texts) start indices prefs
@@ -59,11 +68,7 @@ read-asking texts request start indices prefs is = record {
       status = is.listed.started.status;
       start_is = is.listed.started.start_is;
     };
-    indexed = record {
-      sources = is.listed.indexed.sources;
-      sources_are = is.listed.indexed.sources_are;
-      indices_are = is.listed.indexed.indices_are;
-    };
+    indexed = indexed-asking texts request indices is.listed.indexed;
   };
   preferred = is.preferred;
 }

@@ -1,5 +1,7 @@
 //! Many requests, asked over one reading.
 ghost use Rattle.std.specs.Prelude.{◌≡◌, ◌≢◌, Err, IfErr, IfOk, List, Result, map, ℕ};
+ghost use Rattle.candidates.specs.Inputs.{indices_of};
+ghost use Rattle.inputs.specs.Before.{HasIndices};
 ghost use Rattle.inputs.specs.Each.{AreSaid, AreSaidOver, Comes, still};
 ghost use Rattle.inputs.specs.Meaning.{DenotesAsked};
 ghost use Rattle.inputs.specs.ReadAs.{AreReadAs, IsListed, IsOver, asking, start_of};
@@ -43,6 +45,7 @@ pub trait OverRequest {
         ensures said { (texts : Texts)
             → DenotesAsked texts requested.now.universe
             (start_of before.now) requested.now.asks_all_versions
+            → HasIndices texts (indices_of before.now.indices.now)
             → says self.now texts beside.old result beside.new }
         ensures kept { keeps self.now beside.old result beside.new }
         ensures known { IfErr result (λ refused. refused.fault ≢ fault.Read) };

@@ -1,1 +1,4 @@
+pub mod FoundLemmas
 pub mod ListLemmas
+pub mod StepLemmas
+pub mod UnpackedLemmas

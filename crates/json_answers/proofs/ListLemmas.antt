@@ -19,20 +19,11 @@ left_at f xs i d lt =
     let next : suc i ≡ i + 1 = omega arith in
     ap (map f) (drop-cons xs i d lt) ∙ ap (λ k. f (get_or xs i d) ∷ map f (drop k xs)) next
 
-module _ {X Y : Type 0} (R : X → Y → Type 0) where
-  -- one more item with the value that is related to it
-  pub zip_push : (xs : List X) (ys : List Y) (x : X) (y : Y) → AllZip R xs ys → R x y → AllZip R (xs ++ x ∷ []) (ys ++ y ∷ [])
-  zip_push [] [] x y are r = (r, tt)
-  zip_push [] (b ∷ ys) x y are r = absurd are
-  zip_push (a ∷ xs) [] x y are r = absurd are
-  zip_push (a ∷ xs) (b ∷ ys) x y are r = (are.0, zip_push xs ys x y are.1 r)
-
-  -- so of the items up to a place
-  pub zip_more : (xs : List X) (ys zs : List Y) (i : ℕ) (x : X) (y : Y) → i < length xs → x ≡ get_or xs i x → AllZip R (take i xs) ys
-      → R x y → zs ≡ ys ++ y ∷ [] → AllZip R (take (i + 1) xs) zs
-  zip_more xs ys zs i x y lt is are r e = subst (AllZip R (take (i + 1) xs)) (sym e)
-      (subst (λ (l : List X). AllZip R l (ys ++ y ∷ [])) (ap (λ z. take i xs ++ z ∷ []) is ∙ sym (take_more xs i x lt))
-      (zip_push (take i xs) ys x y are r))
+-- what is left begins with this item
+pub next_item : {X : Type 0} (xs : List X) (i : ℕ) (x : X) → i < length xs → x ≡ get_or xs i x → drop i xs ≡ x ∷ drop (i + 1) xs
+next_item xs i x lt is =
+    let next : suc i ≡ i + 1 = omega arith in
+    drop-cons xs i x lt ∙ ap (λ k. get_or xs i x ∷ drop k xs) next ∙ ap (λ y. y ∷ drop (i + 1) xs) (sym is)
 
 -- a list is cut at one of its items
 pub cut_at : {X : Type 0} (xs : List X) (i : ℕ) (x : X) → i < length xs → x ≡ get_or xs i x → xs ≡ take i xs ++ x ∷ drop (suc i) xs

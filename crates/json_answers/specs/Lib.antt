@@ -1,3 +1,4 @@
+pub mod Archives
 pub mod Document
 pub mod Lines
 pub mod Objects
@@ -5,4 +6,5 @@ pub mod Pairs
 pub mod Premises
 pub mod Steps
 pub mod TextLines
+pub mod Unpacked
 pub mod Words

@@ -1,17 +1,15 @@
 // The steps of a plan as objects.
-ghost use Rattle.std.specs.Prelude.{◌≡◌, IfOk, List, OnOk, map, ℕ};
-ghost use Rattle.std.specs.List.{AllZip};
+ghost use Rattle.std.specs.Prelude.{◌≡◌, IfOk, OnOk, map};
+ghost use Rattle.std.specs.Option.{option_copied};
 ghost use Rattle.serde_json.specs.View.{members_view, view};
 ghost use Rattle.json_answers.specs.Document.{text_data};
 ghost use Rattle.json_answers.specs.Steps as Spec;
-ghost use Rattle.json_answers.specs.Steps.{AreWithSteps, IsStepData};
-ghost use Rattle.rules.specs.declared.step.Step.TheVariants as unpack;
 
 use crate::archives::{Archive, Archives};
 use crate::members::Members;
 use crate::texts::{text_or_null, text_value};
 use crate::values::push_value;
-use rules::{Name, Step, VersionText};
+use rules::{Name, Step, Text, VersionText};
 use serde_json::{Value, json};
 use std::alloc::{AllocError, Global};
 
@@ -20,43 +18,36 @@ use std::alloc::{AllocError, Global};
 pub fn put_steps(
     alloc: Global,
     members: &mut Members,
-    steps: &[Step],
     archives: &Archives<'_>,
 ) -> Result<(), AllocError>
-    ensures { OnOk result
-        (AreWithSteps steps.now (members_view members.old.map.entries)
-        (members_view members.new.map.entries)) }
-{
-    let values = step_values(alloc, steps, archives)?;
-    put_objects(alloc, members, steps, values)
-}
-
-// Puts these objects of the steps, and how many steps there are of each action.
-fn put_objects(
-    alloc: Global,
-    members: &mut Members,
-    steps: &[Step],
-    values: Vec<Value>,
-) -> Result<(), AllocError>
     ensures { OnOk result (members_view members.new.map.entries
-        ≡ Spec.with_steps steps.now (map view values.items)
+        ≡ Spec.with_steps archives.now.steps archives.now.archives
         (members_view members.old.map.entries)) }
 {
+    let steps = archives.steps();
+    let values = step_values(alloc, steps, archives.as_slice())?;
     members.put(alloc, "steps", Value::from(values))?;
     members.put(alloc, "counts", counts_of_steps(alloc, steps)?)
 }
 
-// The objects of the steps.
+// The objects of the steps, each with what was found of its archive.
 fn step_values(
     alloc: Global,
     steps: &[Step],
-    archives: &Archives<'_>,
+    archives: &[Option<Archive>],
 ) -> Result<Vec<Value>, AllocError>
-    ensures { IfOk result (λ values. AllZip IsStepData steps.now (map view values.items)) }
+    ensures { IfOk result
+        (λ values. map view values.items ≡ Spec.steps_data steps.now archives.now) }
 {
     let mut values = Vec::new(alloc);
+    let mut rest = archives;
     for step in steps {
-        push_value(&mut values, step_value(alloc, step, archives)?)?;
+        let Some((archive, behind)) = rest.split_first() else {
+            return Ok(values);
+        };
+        let value = step_value(alloc, step, archive)?;
+        push_value(&mut values, value)?;
+        rest = behind;
     }
     Ok(values)
 }
@@ -74,15 +65,12 @@ fn action_of(step: &Step) -> &'static str
     }
 }
 
-// The object of a step.
-fn step_value(alloc: Global, step: &Step, archives: &Archives<'_>) -> Result<Value, AllocError>
-    ensures { IfOk result (λ value. IsStepData step.now (view value)) }
+// The object of a step, with what was found of the archive that it unpacks.
+fn step_value(alloc: Global, step: &Step, archive: &Option<Archive>) -> Result<Value, AllocError>
+    ensures { IfOk result (λ value. view value ≡ Spec.step_data step.now archive.now) }
 {
     match step {
-        Step::Unpack(name, version) => {
-            let archive = archives.of(name.as_bytes(), version.as_bytes());
-            unpack_value(alloc, name, version, archive)
-        }
+        Step::Unpack(name, version) => unpack_value(alloc, name, version, archive),
         Step::Deconfigure(name) => named_value(alloc, "deconfigure", name),
         Step::Configure(names) => configure_value(alloc, names.as_slice()),
         Step::Remove(name) => named_value(alloc, "remove", name),
@@ -117,52 +105,69 @@ fn configure_value(alloc: Global, names: &[Name]) -> Result<Value, AllocError>
     json!(in alloc; {"action": "configure", "names": names})
 }
 
-// The object of a step that unpacks this version of the package, whose archive is this one.
+// The object of a step that unpacks this version of the package, with what was found of its archive.
 fn unpack_value(
     alloc: Global,
     name: &Name,
     version: &VersionText,
-    archive: Option<&Archive>,
-) -> Result<Value, AllocError>
-    ensures { IfOk result (λ value. IsStepData (unpack.Unpack name.now version.now) (view value)) }
-{
-    let filename = text_or_null(alloc, filename_in(archive))?;
-    let size = Value::from(archive.and_then(|archive| archive.size));
-    let digest = text_or_null(alloc, digest_in(archive))?;
-    unpack_with(alloc, name, version, filename, size, digest)
-}
-
-// The same with the values of the fields of its stanza.
-fn unpack_with(
-    alloc: Global,
-    name: &Name,
-    version: &VersionText,
-    filename: Value,
-    size: Value,
-    digest: Value,
+    archive: &Option<Archive>,
 ) -> Result<Value, AllocError>
     ensures { IfOk result (λ value. view value
-        ≡ Spec.unpack_data name.now version.now (view filename) (view size) (view digest)) }
+        ≡ Spec.unpack_with name.now version.now archive.now) }
 {
-    let name = text_value(alloc, name.as_bytes())?;
-    let version = text_value(alloc, version.as_bytes())?;
-    json!(in alloc; {
-        "action": "unpack", "name": name, "version": version,
-        "filename": filename, "size": size, "sha256": digest
-    })
-}
-
-fn filename_in(archive: Option<&Archive>) -> Option<&[u8]> {
-    match &archive?.filename {
-        None => None,
-        Some(filename) => Some(filename.as_slice()),
+    match archive {
+        None => unpack_of(alloc, name, version, None, None, None),
+        Some(archive) => unpack_of(
+            alloc,
+            name,
+            version,
+            bytes_of(&archive.filename),
+            archive.size,
+            bytes_of(&archive.sha256),
+        ),
     }
 }
 
-fn digest_in(archive: Option<&Archive>) -> Option<&[u8]> {
-    match &archive?.sha256 {
+// The same with these fields of its stanza.
+fn unpack_of(
+    alloc: Global,
+    name: &Name,
+    version: &VersionText,
+    filename: Option<&[u8]>,
+    size: Option<u64>,
+    sha256: Option<&[u8]>,
+) -> Result<Value, AllocError>
+    ensures { IfOk result (λ value. view value ≡ Spec.unpack_data name.now version.now
+        (option_copied filename.entry) size (option_copied sha256.entry)) }
+{
+    let name = text_value(alloc, name.as_bytes())?;
+    let version = text_value(alloc, version.as_bytes())?;
+    let filename = text_or_null(alloc, filename)?;
+    let size = number_or_null(size);
+    let sha256 = text_or_null(alloc, sha256)?;
+    json!(in alloc; {
+        "action": "unpack", "name": name, "version": version,
+        "filename": filename, "size": size, "sha256": sha256
+    })
+}
+
+// The number, or `null` where there is none.
+fn number_or_null(number: Option<u64>) -> Value
+    ensures { view result ≡ Spec.number_or_null number }
+{
+    match number {
+        None => Value::Null,
+        Some(number) => Value::from(number),
+    }
+}
+
+// The bytes of the text, if there is one.
+fn bytes_of(text: &Option<Text>) -> Option<&[u8]>
+    ensures { option_copied result ≡ text.now }
+{
+    match text {
         None => None,
-        Some(digits) => Some(digits.as_slice()),
+        Some(text) => Some(text.as_bytes()),
     }
 }
 

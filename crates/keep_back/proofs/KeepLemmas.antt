@@ -4,7 +4,9 @@ use Rattle.std.specs.Prelude.{◌⊎◌, IfErr, IsErrAnd, OnOk, Result, Ok, Err}
 use Rattle.std.specs.List.{slice_set}
 use Rattle.std.proofs.lemmas.Bool.{cases_order}
 use Rattle.std.proofs.lemmas.List.{length-map, length-set}
+use Rattle.candidates.specs.Inputs.{indices_of}
 use Rattle.cli_engine.specs.Refuted.{AreRefuted}
+use Rattle.cli_engine.specs.Reasons.{HasWhere, TellsSolved}
 use Rattle.cli_engine.specs.Solution.{HasSolvedLines}
 use Rattle.inputs.specs.ReadAs.{AreReadAs, asking, start_of}
 use Rattle.inputs.specs.Reading.{out_of_memory}
@@ -14,7 +16,7 @@ use Rattle.inputs.specs.declared.before.Before.{Before}
 use Rattle.inputs.specs.declared.refusal.Refusal.{Refusal}
 use Rattle.inputs.specs.declared.request.Requested.{Requested}
 use Rattle.inputs.proofs.MeaningLemmas.{one_meaning}
-use Rattle.inputs.proofs.ReadAsLemmas.{asking-same}
+use Rattle.inputs.proofs.ReadAsLemmas.{asking-same, indexed-asking}
 use Rattle.rules.specs.Database.{Record}
 use Rattle.rules.specs.Sound.{IsAcceptable}
 use Rattle.rules.specs.Universe.{Universe}
@@ -322,13 +324,15 @@ is-left before texts limit wishes kept read of is = subst (λ (stays : Option (L
 )
 
 -- the answer is true of the texts with the request that is left
-pub is-kept : (before : Before) (texts : Texts) (limit : ℕ) (kept : Kept) (back : KeptBack) → AreReadAs texts before
-    → IsLeft texts limit kept.stays kept.request.items
+pub is-kept : (before : Before) (texts : Texts) (limit : ℕ) (tells_reasons has_document : Bool) (kept : Kept) (back : KeptBack)
+    → AreReadAs texts before → IsLeft texts limit kept.stays kept.request.items
     → IsSolvedRequest before limit kept.request.items kept.solved → back.answered.solved ≡ kept.solved.solved
     → back.answered.asks_all_versions ≡ kept.solved.requested.asks_all_versions → back.answered.naming ≡ None
-    → HasSolvedLines kept.solved.requested.universe back.answered.solved back.answered.members → back.request ≡ kept.request.items
-    → back.stays ≡ kept.stays → IsKeptBack texts limit back
-is-kept before texts limit kept back read left is same asks naming has request stays = record {
+    → HasWhere tells_reasons (TellsSolved kept.solved.requested.universe (indices_of before.indices.now) (start_of before) back.answered.asks_all_versions back.answered.solved)
+    back.answered.reasons
+    → HasSolvedLines kept.solved.requested.universe has_document back.answered.solved back.answered.members
+    → back.request ≡ kept.request.items → back.stays ≡ kept.stays → IsKeptBack texts limit tells_reasons has_document back
+is-kept before texts limit tells_reasons has_document kept back read left is same asks naming reasons has request stays = record {
   left = rw (request, stays) left;
   holds = record {
     universe = kept.solved.requested.universe;
@@ -336,6 +340,9 @@ is-kept before texts limit kept back read left is same asks naming has request s
     denoted = rw (request, asks) (is.asked texts read);
     holds = rw same is.holds;
     naming = naming;
+    indices = indices_of before.indices.now;
+    indexed = indexed-asking texts back.request (indices_of before.indices.now) read.read.listed.indexed;
+    reasons = reasons;
     lines = has;
   };
 }

@@ -69,10 +69,11 @@ abbrev pub IsLeft : Texts → ℕ → Option (List Bool) → List ℕ → Type 0
 IsLeft texts limit None request = texts.request ≡ Some request
 IsLeft texts limit (Some stays) request = (lines : List (List ℕ)) × IsRest texts lines stays request × IsAsMuchAsCanBe texts limit lines stays
 
--- the answer is true of the request that is left
-pub record IsKeptBack (texts : Texts) (limit : ℕ) (kept : KeptBack) : Type 0 where
+-- the answer is true of the request that is left, with the reasons where they are wanted and the lines of a refutation where there is a
+-- document
+pub record IsKeptBack (texts : Texts) (limit : ℕ) (tells_reasons has_document : Bool) (kept : KeptBack) : Type 0 where
   pub left : IsLeft texts limit kept.stays kept.request
-  pub holds : IsSolution (asking kept.request texts) limit false kept.answered
+  pub holds : IsSolution (asking kept.request texts) limit false tells_reasons has_document kept.answered
 
 -- lines were left out, and what is left of the request is refused so
 pub record IsLeftRefusal (texts : Texts) (refused : Refusal) : Type 0 where
@@ -88,6 +89,6 @@ IsKeptRefusal texts refused = IsRefusal texts refused ⊎ IsLeftRefusal texts re
 
 -- what is said of as much of a request as can be: the answer to what is left of it, or the first refusal, of the request or of what is
 -- left of it
-abbrev pub IsSaidOfKept : Texts → ℕ → Result KeptBack Refusal → Type 0
-IsSaidOfKept texts limit (Ok kept) = IsKeptBack texts limit kept
-IsSaidOfKept texts limit (Err refused) = IsKeptRefusal texts refused
+abbrev pub IsSaidOfKept : Texts → ℕ → Bool → Bool → Result KeptBack Refusal → Type 0
+IsSaidOfKept texts limit tells_reasons has_document (Ok kept) = IsKeptBack texts limit tells_reasons has_document kept
+IsSaidOfKept texts limit tells_reasons has_document (Err refused) = IsKeptRefusal texts refused

@@ -3,7 +3,9 @@
 ghost use Rattle.std.specs.Prelude.{◌≡◌, ◌≢◌, IfErr, IfOk, None, Some, false};
 ghost use Rattle.std.proofs.Common.{rules};
 ghost use mathlib.Core.Logic.{inl};
-ghost use Rattle.cli_engine.specs.Good.{IsGoodIfPlan};
+ghost use Rattle.candidates.specs.Inputs.{indices_of};
+ghost use Rattle.cli_engine.specs.Reasons.{HasWhere, TellsSolved};
+ghost use Rattle.cli_engine.specs.Right.{IsRight};
 ghost use Rattle.cli_engine.specs.Solution.{HasSolvedLines};
 ghost use Rattle.inputs.specs.Meaning.{DenotesAsked};
 ghost use Rattle.inputs.specs.ReadAs.{AreReadAs, IsOver, asking, start_of};
@@ -15,7 +17,7 @@ ghost use Rattle.keep_back.specs.KeptBack.{IsSaidOfKept};
 
 use crate::kept::{Kept, kept_of};
 use crate::round::SolvedRequest;
-use cli_engine::{Answered, Notes, answer_of_solved, tell_refused, tell_solved};
+use cli_engine::{Answered, Notes, answer_of_solved, tell_idle_inputs, tell_refused};
 use inputs::{
     Before, Input, Progress, Question, Refusal, Requested, Shelf, WholeText, read_part,
     requested_in,
@@ -37,6 +39,8 @@ use std::alloc::{AllocError, Global};
 pub struct KeepBack {
     /// How many conflicts each search has at most.
     pub limit: u32,
+    /// Whether it is told of the answer to what is left.
+    pub tells_reasons: bool,
     /// Whether the answer has the lines of a refutation for a document.
     pub has_document: bool,
 }
@@ -75,16 +79,16 @@ fn requested_telling<'i, 'a>(
     answer
 }
 
-// The answer to what is left, with what a document has of it, where there is to be one; what is told of it is told last.
-fn tell_kept<'a>(
+// The answer to what is left, with what is told of it, where that is wanted, and what a document has of it, where there is to be one.
+fn kept_back_of<'a>(
     alloc: Global,
     before: &Before<'_, '_, '_, '_, '_, '_, '_, 'a>,
     kept: Kept<'_, 'a>,
+    tells_reasons: bool,
     has_document: bool,
-    notes: &mut Notes,
 ) -> Result<KeptBack, AllocError>
     requires over { IsOver before.now kept.solved.requested.universe }
-    requires good { IsGoodIfPlan kept.solved.requested.universe
+    requires right { IsRight kept.solved.requested.universe
         (start_of before.now) kept.solved.solved }
     ensures solved { IfOk result
         (λ kept_back. kept_back.answered.solved ≡ kept.entry.solved.solved) }
@@ -92,12 +96,16 @@ fn tell_kept<'a>(
         (λ kept_back. kept_back.answered.asks_all_versions
         ≡ kept.entry.solved.requested.asks_all_versions) }
     ensures naming { IfOk result (λ kept_back. kept_back.answered.naming ≡ None) }
+    ensures reasons { IfOk result (λ kept_back. HasWhere tells_reasons
+        (TellsSolved kept.entry.solved.requested.universe
+        (indices_of before.now.indices.now) (start_of before.now)
+        kept_back.answered.asks_all_versions kept_back.answered.solved)
+        kept_back.answered.reasons) }
     ensures lines { IfOk result (λ kept_back.
-        HasSolvedLines kept.entry.solved.requested.universe kept_back.answered.solved
-        kept_back.answered.members) }
+        HasSolvedLines kept.entry.solved.requested.universe has_document
+        kept_back.answered.solved kept_back.answered.members) }
     ensures request { IfOk result (λ kept_back. kept_back.request ≡ kept.entry.request.items) }
     ensures stays { IfOk result (λ kept_back. kept_back.stays ≡ kept.entry.stays) }
-    ensures unasked { notes.old.wanted ≡ false → notes.new ≡ notes.old }
 {
     let Kept {
         solved,
@@ -106,17 +114,17 @@ fn tell_kept<'a>(
         reasons,
     } = kept;
     let SolvedRequest { requested, solved } = solved;
-    let answer = answer_of_solved(
+    let answered = answer_of_solved(
         alloc,
-        &requested.universe,
+        before,
+        &requested,
         solved,
-        requested.asks_all_versions,
         false,
+        tells_reasons,
         has_document,
     )?;
-    tell_solved(alloc, before, &requested.universe, &answer, notes)?;
     Ok(KeptBack {
-        answered: answer,
+        answered,
         request: Items::new(request),
         stays,
         notes: Items::new(reasons),
@@ -124,25 +132,27 @@ fn tell_kept<'a>(
 }
 
 /// Answers as much of the request with this text as can be, over what is read before it, as `KeepBack` answers that of a shelf, and tells
-/// of the answer. The shelf is shown how far it is.
+/// of inputs. The shelf is shown how far it is.
 pub fn keep<S: Shelf>(
     alloc: Global,
     shelf: &mut S,
     before: &Before<'_, '_, '_, '_, '_, '_, '_, '_>,
     text: Vec<u8>,
     limit: u32,
+    tells_reasons: bool,
     has_document: bool,
     notes: &mut Notes,
 ) -> Result<KeptBack, Refusal>
     ensures said { (texts : Texts) → AreReadAs texts before.now → texts.request ≡ Some text.items
-        → IsSaidOfKept texts limit result }
+        → IsSaidOfKept texts limit tells_reasons has_document result }
     ensures known { IfErr result (λ refused. refused.fault ≢ fault.Read) }
     ensures unasked { notes.old.wanted ≡ false → notes.new ≡ notes.old }
     ensures untouched { IsUntouched S.Shelf shelf.old shelf.new }
 {
     let requested = requested_telling(alloc, before, text.as_slice(), notes)?;
     let kept = kept_of(alloc, shelf, before, requested, text, limit)?;
-    let kept_back = tell_kept(alloc, before, kept, has_document, notes)?;
+    let kept_back = kept_back_of(alloc, before, kept, tells_reasons, has_document)?;
+    tell_idle_inputs(alloc, before, notes)?;
     Ok(kept_back)
 }
 
@@ -152,7 +162,8 @@ impl Question for KeepBack {
     type Beside = Notes;
 
     // what is left is answered, and is as much as can be; the refusal is that of the request as it stands, or of what is left of it
-    ghost says = { λ question texts _ old result new. IsSaidOfKept texts question.limit result };
+    ghost says = { λ question texts _ old result new.
+        IsSaidOfKept texts question.limit question.tells_reasons question.has_document result };
 
     ghost keeps = { λ _ _ old _ new. old.wanted ≡ false → new ≡ old };
 
@@ -170,6 +181,7 @@ impl Question for KeepBack {
             before,
             text,
             self.limit,
+            self.tells_reasons,
             self.has_document,
             notes,
         );

@@ -1,5 +1,11 @@
 pub mod ChangeLemmas
+pub mod GrowLemmas
 pub mod LineLemmas
 pub mod NameLemmas
 pub mod RecordLemmas
+pub mod ResultLemmas
 pub mod RunLemmas
+pub mod StepLemmas
+pub mod ThereLemmas
+pub mod VerdictLemmas
+pub mod WitnessLemmas

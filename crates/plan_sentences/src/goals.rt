@@ -1,8 +1,9 @@
 // Goals that an end doesn't fulfil, in words.
 
 use crate::named::{push_named, record_of};
-use crate::words::{push, push_count, push_restriction};
+use crate::words::push;
 use debversion::Version;
+use phrases::{push_count, push_restriction};
 use plancheck_state::Records;
 use rules::Goal;
 use std::alloc::AllocError;

@@ -1,9 +1,10 @@
 // Sentences on a plan that is good, and on any verdict.
 
-ghost use Rattle.std.specs.Prelude.{◌≡◌, IfOk};
+ghost use Rattle.std.specs.Prelude.{IfOk};
 ghost use Rattle.rules.specs.Database.{HasDistinctNames};
 ghost use Rattle.rules.specs.Run.{IsGoodPlan, Run};
 ghost use Rattle.rules.specs.Verdict.{IsBuiltOn, IsVerdict};
+ghost use Rattle.plan_sentences.specs.No.{TellsVerdict};
 ghost use Rattle.plan_sentences.specs.Told.{TellsPlan};
 
 use crate::changes::changes_between;
@@ -53,8 +54,8 @@ pub fn verdict_sentences<'p, 'a>(
 ) -> Result<Vec<u8>, AllocError>
     requires built { IsBuiltOn start.now universe.now }
     requires verdict { IsVerdict universe.now start.now steps.now verdict.now }
-    ensures yes { verdict.now ≡ Verdict.Yes
-        → IfOk result (λ text. TellsPlan universe.now start.now steps.now text.items) }
+    ensures { IfOk result
+        (λ text. TellsVerdict universe.now start.now steps.now verdict.now text.items) }
 {
     match verdict {
         Verdict::Yes => change_sentences(alloc, start, universe, steps),

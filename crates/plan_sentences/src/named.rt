@@ -1,16 +1,17 @@
 // What the database knows of a name, in words.
 
-ghost use Rattle.std.specs.Prelude.{◌≡◌};
-ghost use Rattle.std.specs.List.{find};
+ghost use Rattle.std.specs.Prelude.{◌≡◌, ◌++◌, IfOk, IfSome, OnOk, map};
+ghost use Rattle.std.specs.List.{All, Contains, find};
 ghost use Rattle.std.specs.Option.{option_copied};
 ghost use Rattle.rules.specs.Database.{HasDistinctNames};
 ghost use Rattle.rules.specs.Step.{is_named};
 ghost use Rattle.plan_sentences.specs.Changes.{record_in};
+ghost use Rattle.plan_sentences.specs.No as Spec;
 
-use crate::words::{push, push_record};
+use crate::words::push_record;
 use plancheck_state::{Holders, Records, StateRecord};
-use relation::{Atom, Clause, Pkg};
-use std::alloc::AllocError;
+use relation::{Atom, Pkg};
+use std::alloc::{AllocError, Global};
 
 // The first of the records that has the name.
 fn record_among<'v, 'p, 'a>(
@@ -42,37 +43,82 @@ pub(crate) fn push_named(
     text: &mut Vec<u8>,
     db: &Records<'_, '_>,
     name: &[u8],
-) -> Result<(), AllocError> {
+) -> Result<(), AllocError>
+    ensures { HasDistinctNames db.now → OnOk result (text.new.items
+        ≡ text.old.items ++ Spec.standing_of name.now (record_in db.now name.now)) }
+{
     match record_of(db, name) {
-        None => push(text, &[name, b" is not installed"]),
+        None => {
+            text.extend_from_slice(name)?;
+            text.extend_from_slice(b" is not installed")
+        }
         Some(entry) => push_record(text, entry),
     }
 }
 
-// Whether one of the alternatives before this place is of the name.
-fn is_named_before(atoms: &[Atom<'_>], place: usize, name: &[u8]) -> bool {
-    atoms.iter().take(place).any(|atom| atom.name() == name)
+// In which state the record is.
+fn record_text(alloc: Global, entry: &StateRecord<'_, '_>) -> Result<Vec<u8>, AllocError>
+    ensures { IfOk result (λ text. text.items ≡ Spec.record_words entry.now) }
+{
+    let mut text = Vec::new(alloc);
+    push_record(&mut text, entry)?;
+    Ok(text)
 }
 
-/// Writes in which state the present packages are that have a name of the clause: ` (foo 1 is unpacked)`.
-pub(crate) fn push_there(
-    text: &mut Vec<u8>,
+// In which state the package is that has the name of the atom, if it is present.
+fn there_by(
+    alloc: Global,
     db: &Records<'_, '_>,
-    clause: &Clause<'_>,
-) -> Result<(), AllocError> {
-    let mut count: usize = 0;
-    for (place, atom) in clause.as_slice().iter().enumerate() {
-        if !is_named_before(clause.as_slice(), place, atom.name())
-            && pkg_of(db, atom.name()).is_some()
-        {
-            let before: &[u8] = if count == 0 { b" (" } else { b", " };
-            text.extend_from_slice(before)?;
-            push_named(text, db, atom.name())?;
-            count = count.saturating_add(1);
+    atom: &Atom<'_>,
+) -> Result<Option<Vec<u8>>, AllocError>
+    ensures { (atoms : _) → HasDistinctNames db.now → Contains atoms atom.now → IfOk result
+        (λ item. IfSome item (λ text. Spec.IsThere db.now atoms text.items)) }
+{
+    match record_of(db, atom.name()) {
+        Some(entry) if entry.state().is_present() => Ok(Some(record_text(alloc, entry)?)),
+        _ => Ok(None),
+    }
+}
+
+// Whether the item is one of these.
+fn is_among(items: &[Vec<u8>], item: &[u8]) -> bool {
+    items.iter().any(|other| other.as_slice() == item)
+}
+
+/// In which state the present packages are that have a name of the clause, an item for each.
+pub(crate) fn there_of(
+    alloc: Global,
+    db: &Records<'_, '_>,
+    atoms: &[Atom<'_>],
+) -> Result<Vec<Vec<u8>>, AllocError>
+    ensures { HasDistinctNames db.now → IfOk result
+        (λ items. All (Spec.IsThere db.now atoms.now) (map (λ item. item.items) items.items)) }
+{
+    let mut items = Vec::new(alloc);
+    for atom in atoms {
+        if let Some(item) = there_by(alloc, db, atom)? {
+            if !is_among(items.as_slice(), item.as_slice()) {
+                items.push(item)?;
+            }
         }
     }
-    if count > 0 {
-        text.push(b')')?;
+    Ok(items)
+}
+
+/// Writes the items in brackets: ` (foo 1 is unpacked)`; nothing of none.
+pub(crate) fn push_bracketed(text: &mut Vec<u8>, items: &[Vec<u8>]) -> Result<(), AllocError>
+    ensures { OnOk result (text.new.items
+        ≡ text.old.items ++ Spec.bracketed (map (λ item. item.items) items.now)) }
+{
+    let Some((first, others)) = items.split_first() else {
+        return Ok(());
+    };
+    text.extend_from_slice(b" (")?;
+    text.extend_from_slice(first.as_slice())?;
+    for item in others {
+        text.extend_from_slice(b", ")?;
+        text.extend_from_slice(item.as_slice())?;
     }
+    text.push(b')')?;
     Ok(())
 }

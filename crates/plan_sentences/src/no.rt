@@ -1,14 +1,18 @@
 // Sentences on a plan's no.
 
+ghost use Rattle.std.specs.Prelude.{◌≡◌, IfOk, MatchOption, ⊤};
+ghost use Rattle.rules.specs.Database.{HasDistinctNames};
 ghost use Rattle.rules.specs.Verdict.{IsBuiltOn, IsVerdict};
 ghost use Rattle.rules.specs.declared.step.Verdict.TheVariants as verdicts;
+ghost use Rattle.plan_sentences.specs.No as Spec;
 
 use crate::bare::push_bare;
-use crate::end::push_end;
-use crate::shown::push_witness;
+use crate::end::end_text;
+use crate::shown::witness_told;
 use crate::start::push_start;
-use crate::words::{code_of, push, push_count};
+use crate::words::code_of;
 use index::IndexPackage;
+use phrases::push_count;
 use plancheck::stanzas_for;
 use plancheck_state::Records;
 use plantext::write_step;
@@ -17,40 +21,57 @@ use std::alloc::{AllocError, Global};
 use universe::Universe;
 use witness::{Witness, find_witness, turn};
 
-// Writes the number of the step, its line of the plan, and the rule that it fails.
-fn push_step(
-    alloc: Global,
-    text: &mut Vec<u8>,
-    number: usize,
-    step: &Step,
-    rule: Rule,
-) -> Result<(), AllocError> {
+// The line of the step, without its newline.
+fn line_text(alloc: Global, step: &Step) -> Result<Vec<u8>, AllocError>
+    ensures { IfOk result (λ text. text.items ≡ Spec.line_words step.now) }
+{
     let line = write_step(alloc, step)?;
-    text.extend_from_slice(b"Step ")?;
-    push_count(text, number)?;
-    text.extend_from_slice(b" is '")?;
-    for byte in line.as_slice() {
+    let mut text = Vec::new(alloc);
+    let bytes = line.as_slice();
+    for byte in bytes {
         if *byte != b'\n' {
             text.push(*byte)?;
         }
     }
-    push(text, &[b"', which isn't allowed (", code_of(rule), b"): "])
+    Ok(text)
 }
 
-// Writes what stands against the step in these records.
-fn push_reason(
-    text: &mut Vec<u8>,
+// The number of the step, its line of the plan, and the rule that it fails.
+fn step_text(alloc: Global, number: usize, step: &Step, rule: Rule) -> Result<Vec<u8>, AllocError>
+    ensures { IfOk result (λ text. text.items ≡ Spec.step_words number step.now rule) }
+{
+    let line = line_text(alloc, step)?;
+    let mut text = Vec::new(alloc);
+    text.extend_from_slice(b"Step ")?;
+    push_count(&mut text, number)?;
+    text.extend_from_slice(b" is '")?;
+    text.extend_from_slice(line.as_slice())?;
+    text.extend_from_slice(b"', which isn't allowed (")?;
+    text.extend_from_slice(code_of(rule))?;
+    text.extend_from_slice(b"): ")?;
+    Ok(text)
+}
+
+// What stands against the step in these records.
+fn reason_text(
+    alloc: Global,
     db: &Records<'_, '_>,
     universe: &Universe<'_, '_>,
     listed: &Option<IndexPackage<'_>>,
     step: &Step,
     rule: Rule,
     witness: &Option<Witness>,
-) -> Result<(), AllocError> {
-    match (witness, listed) {
-        (None, _) => push_bare(text, db, universe, step, rule),
-        (Some(witness), None) => push_witness(text, db, None, witness),
-        (Some(witness), Some(listed)) => push_witness(text, db, Some(listed.pkg()), witness),
+) -> Result<Vec<u8>, AllocError>
+    ensures { HasDistinctNames db.now → IfOk result (λ text. MatchOption witness.now ⊤
+        (λ it. Spec.IsWitnessTold listed.now db.now it text.items)) }
+{
+    match witness {
+        Some(witness) => witness_told(alloc, db, listed, witness),
+        None => {
+            let mut text = Vec::new(alloc);
+            push_bare(&mut text, db, universe, step, rule)?;
+            Ok(text)
+        }
     }
 }
 
@@ -65,17 +86,18 @@ fn step_sentences<'p, 'a>(
 ) -> Result<Vec<u8>, AllocError>
     requires built { IsBuiltOn start.now universe.now }
     requires verdict { IsVerdict universe.now start.now steps.now (verdicts.Step number rule) }
+    ensures { IfOk result (λ text.
+        Spec.TellsStep universe.now start.now steps.now number rule text.items) }
 {
     let witness = find_witness(alloc, start, universe, steps, number, rule)?;
     let stanzas = stanzas_for(alloc, universe, steps)?;
     let before = number - 1;
     let db = turn(alloc, start, universe, steps, stanzas.as_slice(), before)?;
-    let (Some(step), Some(listed)) = (steps.get(before), stanzas.get(before)) else {
-        return Ok(Vec::new(alloc));
-    };
-    let mut text = Vec::new(alloc);
-    push_step(alloc, &mut text, number, step, rule)?;
-    push_reason(&mut text, &db, universe, listed, step, rule, &witness)?;
+    let listed = &stanzas[before];
+    let step = &steps[before];
+    let said = reason_text(alloc, &db, universe, listed, step, rule, &witness)?;
+    let mut text = step_text(alloc, number, step, rule)?;
+    text.extend_from_slice(said.as_slice())?;
     text.extend_from_slice(b".\n")?;
     Ok(text)
 }
@@ -90,6 +112,8 @@ fn end_sentences<'p, 'a>(
 ) -> Result<Vec<u8>, AllocError>
     requires built { IsBuiltOn start.now universe.now }
     requires verdict { IsVerdict universe.now start.now steps.now (verdicts.End reason.now) }
+    ensures { IfOk result
+        (λ text. Spec.TellsEnd universe.now start.now steps.now reason.now text.items) }
 {
     let stanzas = stanzas_for(alloc, universe, steps)?;
     let db = turn(
@@ -100,20 +124,20 @@ fn end_sentences<'p, 'a>(
         stanzas.as_slice(),
         steps.len(),
     )?;
-    let mut text = Vec::new(alloc);
-    push_end(&mut text, &db, universe, reason)?;
+    let text = end_text(alloc, &db, universe, reason)?;
     Ok(text)
 }
 
+// Sentences on packages that conflict at the start.
 fn start_sentences(alloc: Global, start: &Records<'_, '_>) -> Result<Vec<u8>, AllocError> {
     let mut text = Vec::new(alloc);
-    push_start(&mut text, start)?;
+    push_start(alloc, &mut text, start)?;
     Ok(text)
 }
 
 /// Sentences on the verdict of a plan that isn't good: the step, the rule that it fails and what stands against it; or what is
-/// against the end; or two packages that conflict at the start. Their words aren't promised. They cost what `turn` and
-/// `find_witness` cost. Memory alone can fail.
+/// against the end; or two packages that conflict at the start. They cost what `turn` and `find_witness` cost. Memory alone
+/// can fail.
 pub fn no_sentences<'p, 'a>(
     alloc: Global,
     start: &Records<'p, 'a>,
@@ -123,6 +147,8 @@ pub fn no_sentences<'p, 'a>(
 ) -> Result<Vec<u8>, AllocError>
     requires built { IsBuiltOn start.now universe.now }
     requires verdict { IsVerdict universe.now start.now steps.now verdict.now }
+    ensures { IfOk result
+        (λ text. Spec.TellsNo universe.now start.now steps.now verdict.now text.items) }
 {
     match verdict {
         Verdict::Yes => Ok(Vec::new(alloc)),

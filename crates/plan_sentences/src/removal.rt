@@ -1,6 +1,7 @@
 // Why a plan removes a package, in words.
 
-use crate::words::{push, push_clause, push_count, push_pkg};
+use crate::words::{push, push_clause, push_pkg};
+use phrases::push_count;
 use plancheck_state::{Records, StateRecord, breaks_other, conflicts_with, is_met, is_same};
 use relation::{Clause, Pkg};
 use rules::Goal;
@@ -66,7 +67,7 @@ fn push_lost(
         return Ok(false);
     };
     push(text, &[b" (its ", field, b": "])?;
-    push_clause(text, clause)?;
+    push_clause(text, clause.as_slice())?;
     if is_met(start, clause) {
         text.extend_from_slice(b" isn't met any more)")?;
     } else {

@@ -1,5 +1,9 @@
+pub mod CauseLemmas
 pub mod CoreLemmas
+pub mod FoundLemmas
 pub mod GrowLemmas
 pub mod LineLemmas
+pub mod OfferLemmas
 pub mod SelectedLemmas
+pub mod ToldLemmas
 pub mod TruthLemmas

@@ -7,6 +7,7 @@ use Rattle.std.proofs.lemmas.List.{get_or_default, take_more}
 use Rattle.std.proofs.lemmas.List.Elements.{All-append, All-push, Contains-append_left, Contains-append_right, Contains-push, Contains-push_cases}
 use Rattle.std.proofs.lemmas.Option.{get_or_from_slice_get, slice_get_within}
 use Rattle.index.proofs.NameLemmas.{list_any-map}
+use Rattle.index.specs.Index.{ReadIndex}
 use Rattle.indexmap.specs.IndexSet.{insert_key}
 use Rattle.indexmap.proofs.CallerLemmas.{Contains-list_any}
 use Rattle.refutation.specs.Premise.{IsPremise}
@@ -54,37 +55,37 @@ line_more keys more new is other = by (list_any (λ (key : Bor (List ℕ)). byte
         )
 
 -- a premise that is told is told by more lines
-pub told_on : (u : Universe) (claim : Premise) (said : List (List ℕ)) (more : List (List ℕ)) → HasSentence u claim said
-    → HasSentence u claim (said ++ more)
-told_on u claim said more has = (has.0, Contains-append_left said more has.0 has.1, has.2)
+pub told_on : (u : Universe) (indices : List ReadIndex) (claim : Premise) (said : List (List ℕ)) (more : List (List ℕ))
+    → HasSentence u indices claim said → HasSentence u indices claim (said ++ more)
+told_on u indices claim said more has = (has.0, Contains-append_left said more has.0 has.1, has.2)
 
 -- a premise whose basis is there has one among more bases
 pub basis_on : (claim : Premise) (bases : List Basis) (more : List Basis) → HasBasis claim bases → HasBasis claim (bases ++ more)
 basis_on claim bases more has = (has.0, Contains-append_left bases more has.0 has.1, has.2)
 
 -- one premise more is told
-pub text_told : {X : Type 0} (f : X → List ℕ) (u : Universe) (lines : List Line) (bases : List Basis) (place : ℕ) (basis : Basis)
+pub text_told : {X : Type 0} (f : X → List ℕ) (u : Universe) (indices : List ReadIndex) (lines : List Line) (bases : List Basis) (place : ℕ) (basis : Basis)
     (texts more : List X) (text : X) → place < length bases → basis ≡ get_or bases place basis → more ≡ texts ++ text ∷ []
-    → IsBasis u lines basis → IsSentence u basis.premise.now (f text)
-    → AreTruthful u lines (map f texts) × All (λ (one : Basis). HasSentence u one.premise.now (map f texts)) (take place bases)
-    → AreTruthful u lines (map f more) × All (λ (one : Basis). HasSentence u one.premise.now (map f more)) (take (place + 1) bases)
-text_told {X} f u lines bases place basis texts more text within at is based sentence so_far =
-    subst (λ (all : List X). AreTruthful u lines (map f all) × All (λ (one : Basis). HasSentence u one.premise.now (map f all)) (take (place + 1) bases))
+    → IsBasis u lines basis → IsSentence u indices basis.premise.now (f text)
+    → AreTruthful u indices lines (map f texts) × All (λ (one : Basis). HasSentence u indices one.premise.now (map f texts)) (take place bases)
+    → AreTruthful u indices lines (map f more) × All (λ (one : Basis). HasSentence u indices one.premise.now (map f more)) (take (place + 1) bases)
+text_told {X} f u indices lines bases place basis texts more text within at is based sentence so_far =
+    subst (λ (all : List X). AreTruthful u indices lines (map f all) × All (λ (one : Basis). HasSentence u indices one.premise.now (map f all)) (take (place + 1) bases))
     (sym is)
-    (subst (λ (all : List (List ℕ)). AreTruthful u lines all × All (λ (one : Basis). HasSentence u one.premise.now all) (take (place + 1) bases))
+    (subst (λ (all : List (List ℕ)). AreTruthful u indices lines all × All (λ (one : Basis). HasSentence u indices one.premise.now all) (take (place + 1) bases))
     (sym (map-push f texts text)) (truth, told))
   where
     said : List (List ℕ)
     said = map f texts ++ f text ∷ []
 
     Told : Basis → Type 0
-    Told one = HasSentence u one.premise.now said
+    Told one = HasSentence u indices one.premise.now said
 
-    truth : AreTruthful u lines said
-    truth = All-push (IsTruthful u lines) (map f texts) (f text) so_far.0 (inl (basis.premise.now, based.0, based.1, sentence))
+    truth : AreTruthful u indices lines said
+    truth = All-push (IsTruthful u indices lines) (map f texts) (f text) so_far.0 (inl (basis.premise.now, based.0, based.1, sentence))
 
     earlier : All Told (take place bases)
-    earlier k d lt = told_on u (get_or (take place bases) k d).premise.now (map f texts) (f text ∷ []) (so_far.1 k d lt)
+    earlier k d lt = told_on u indices (get_or (take place bases) k d).premise.now (map f texts) (f text ∷ []) (so_far.1 k d lt)
 
     here : Told (get_or bases place basis)
     here = subst Told at (f text, Contains-push (map f texts) (f text), sentence)

@@ -1,2 +1,7 @@
+pub mod Causes
 pub mod Core
+pub mod GoalCauses
+pub mod Offers
+pub mod Reasons
 pub mod Sentences
+pub mod Words

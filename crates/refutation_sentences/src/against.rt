@@ -4,6 +4,7 @@ ghost use Rattle.std.specs.Prelude.{◌≡◌, ◌++◌, IfOk, IfSome, OnOk, Som
 ghost use Rattle.std.specs.List.{Contains};
 ghost use Rattle.rules.specs.Package.{Matches};
 ghost use Rattle.refutation_sentences.specs.Sentences as Spec;
+ghost use Rattle.refutation_sentences.specs.Words as Words;
 
 use crate::context::Context;
 use relation::{Atom, Pkg};
@@ -75,8 +76,8 @@ fn name_between(
     field: Field,
 ) -> Result<Vec<u8>, AllocError>
     ensures { IfOk result
-        (λ words. (pkg against : _) → Spec.package_at context.now.premises.now number ≡ Some pkg
-        → Spec.package_at context.now.premises.now other ≡ Some against
+        (λ words. (pkg against : _) → Words.package_at context.now.premises.now number ≡ Some pkg
+        → Words.package_at context.now.premises.now other ≡ Some against
         → Spec.IsProvidedWord against (Spec.atoms_of field pkg) words.items) }
 {
     let none = Vec::new(context.alloc());
@@ -100,7 +101,7 @@ pub(crate) fn push_against(
     other: u32,
 ) -> Result<(), AllocError>
     ensures { OnOk result
-        (Spec.Grows (Spec.IsAgainstTold context.now.premises.now field number other)
+        (Words.Grows (Spec.IsAgainstTold context.now.premises.now field number other)
         text.old.items text.new.items) }
 {
     let provided = name_between(context, number, other, field)?;

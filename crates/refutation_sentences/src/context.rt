@@ -1,8 +1,12 @@
 // What sentences are told from.
 
 ghost use Rattle.std.specs.Prelude.{◌≡◌, ◌++◌, OnOk};
-ghost use Rattle.refutation_sentences.specs.Sentences as Spec;
+ghost use Rattle.std.specs.Option.{option_copied};
+ghost use Rattle.refutation_sentences.specs.Offers.{standing_of};
+ghost use Rattle.refutation_sentences.specs.Reasons.{is_held};
+ghost use Rattle.refutation_sentences.specs.Words as Words;
 
+use debversion::Version;
 use index::Index;
 use phrases::push_versioned;
 use pins::Prefs;
@@ -21,7 +25,7 @@ pub(crate) struct Context<'k, 'u, 'p, 'a, 'i> {
 
 // Writes the name and the version of the pair.
 fn push_pair(text: &mut Vec<u8>, pair: &Pair<'_, '_>) -> Result<(), AllocError>
-    ensures { OnOk result (text.new.items ≡ text.old.items ++ Spec.package_words pair.now.pkg) }
+    ensures { OnOk result (text.new.items ≡ text.old.items ++ Words.package_words pair.now.pkg) }
 {
     let version = pair.version();
     push_versioned(text, pair.name(), version.text())
@@ -40,10 +44,30 @@ impl<'k, 'u, 'p, 'a, 'i> Context<'k, 'u, 'p, 'a, 'i> {
         self.premises.universe()
     }
 
+    /// Whether the start says that the name is held.
+    pub(crate) fn is_held(&self, name: &[u8]) -> bool
+        ensures { result ≡ is_held self.now.premises.now name.now }
+    {
+        match self.premises.start(name) {
+            None => false,
+            Some(start) => start.is_held(),
+        }
+    }
+
+    /// The version of the name that stands at the start, if one does.
+    pub(crate) fn standing(&self, name: &[u8]) -> Option<&'u Version<'a>>
+        ensures { option_copied result ≡ standing_of self.now.premises.now name.now }
+    {
+        match self.premises.start(name) {
+            None => None,
+            Some(start) => start.standing(),
+        }
+    }
+
     /// Writes the name and the version of the pair of this number.
     pub(crate) fn push_number(&self, text: &mut Vec<u8>, number: u32) -> Result<(), AllocError>
         ensures { OnOk result
-            (text.new.items ≡ text.old.items ++ Spec.pair_words self.now.premises.now number) }
+            (text.new.items ≡ text.old.items ++ Words.pair_words self.now.premises.now number) }
     {
         match self.premises.pair_at(number) {
             None => Ok(()),

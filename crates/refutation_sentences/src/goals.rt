@@ -1,74 +1,192 @@
 // What goals say.
 
-ghost use Rattle.std.specs.Prelude.{◌≡◌, ◌++◌, OnOk, Some};
+ghost use Rattle.std.specs.Prelude.{◌≡◌, ◌++◌, [], IfOk, None, OnOk, Some, codes};
+ghost use Rattle.input_notes.specs.Inputs.{stanzas_of};
+ghost use Rattle.phrases.specs.Phrases.{versioned};
 ghost use Rattle.refutation.specs.Clause.{item_at};
+ghost use Rattle.rules.specs.Universe.{candidate_of};
 ghost use Rattle.rules.specs.declared.goal.Goal.TheVariants as goal;
+ghost use Rattle.refutation_sentences.specs.Causes as Causes;
+ghost use Rattle.refutation_sentences.specs.GoalCauses as Goals;
+ghost use Rattle.refutation_sentences.specs.Offers.{AreNumbersOf, IsBy, IsLeftOutProvider, IsOneOf};
 ghost use Rattle.refutation_sentences.specs.Sentences as Spec;
+ghost use Rattle.refutation_sentences.specs.Words as Words;
+ghost use Rattle.refutation_sentences.specs.declared.offers.By.TheVariants as by;
 
-use crate::causes::{Cause, cause_of, push_cause};
+use crate::causes::{Cause, cause_of, push_cause, push_unfit};
 use crate::context::Context;
-use crate::offers::is_listed;
+use crate::offers::{is_listed, is_none};
 use crate::unadmitted::{push_held, push_highest};
 use crate::wanted::Wanted;
+use debversion::Version;
+use index::IndexEntry;
 use phrases::push_versioned;
 use rules::{Goal, Name, Restriction};
 use std::alloc::AllocError;
 
-// Writes that the name alone is provided, by this, or what there is of it in the indices or at the start.
-fn push_provided(
-    context: &Context<'_, '_, '_, '_, '_>,
-    text: &mut Vec<u8>,
-    name: &[u8],
-    providers: &[u8],
-) -> Result<(), AllocError> {
-    if is_listed(context, name) {
-        return push_cause(context, text, name, &Cause::Unfit);
-    }
-    if is_present(context, name) {
-        text.extend_from_slice(b"no index has ")?;
-        text.extend_from_slice(name)?;
-        return text.extend_from_slice(b", and what is there of it has to be installed again");
-    }
-    text.extend_from_slice(name)?;
-    text.extend_from_slice(b" is no package; it is provided by ")?;
-    text.extend_from_slice(providers)
-}
-
-// Who provides the name, where the cause is that there is no package of it.
-fn providers_in(
-    context: &Context<'_, '_, '_, '_, '_>,
-    cause: &Cause<'_, '_, '_>,
-) -> Result<Option<Vec<u8>>, AllocError> {
-    let mut text = Vec::new(context.alloc());
-    match cause {
-        Cause::Provided(numbers) => context.push_pairs(&mut text, numbers.as_slice())?,
-        Cause::Elsewhere(name, version) => push_versioned(&mut text, *name, version.text())?,
-        _ => return Ok(None),
-    }
-    Ok(Some(text))
-}
-
 // Whether the name is present at the start.
-fn is_present(context: &Context<'_, '_, '_, '_, '_>, name: &[u8]) -> bool {
+fn is_present(context: &Context<'_, '_, '_, '_, '_>, name: &[u8]) -> bool
+    ensures { result ≡ Goals.is_present context.now.premises.now name.now }
+{
     match context.premises.start(name) {
         Some(start) => start.is_present(),
         None => false,
     }
 }
 
-// Writes why no pair satisfies an install goal.
+// Writes that no index has the name, of which something is there at the start.
+fn push_unlisted(text: &mut Vec<u8>, name: &[u8]) -> Result<(), AllocError>
+    ensures { OnOk result (text.new.items ≡ text.old.items ++ Goals.unlisted_words name.now) }
+{
+    text.extend_from_slice(b"no index has ")?;
+    text.extend_from_slice(name)?;
+    text.extend_from_slice(b", and what is there of it has to be installed again")?;
+    Ok(())
+}
+
+// Writes that the name is no package, and by what it is provided.
+fn push_virtual(text: &mut Vec<u8>, name: &[u8], providers: &[u8]) -> Result<(), AllocError>
+    ensures { OnOk result
+        (text.new.items ≡ text.old.items ++ Goals.virtual_words name.now providers.now) }
+{
+    text.extend_from_slice(name)?;
+    text.extend_from_slice(b" is no package; it is provided by ")?;
+    text.extend_from_slice(providers)?;
+    Ok(())
+}
+
+// Writes that the name alone is provided, by these, or what there is of it in the indices or at the start.
+fn push_provided(
+    context: &Context<'_, '_, '_, '_, '_>,
+    text: &mut Vec<u8>,
+    wanted: &Wanted<'_>,
+    providers: &[u8],
+) -> Result<(), AllocError>
+    requires unnamed { Causes.IsUnnamed context.now.premises.now context.now.indices.now
+        wanted.now }
+    requires providers { Goals.AreProvidersTold context.now.premises.now context.now.indices.now
+        wanted.now
+        providers.now }
+    ensures { OnOk result
+        (Words.Grows
+        (Goals.IsGoalCauseTold context.now.premises.now context.now.indices.now wanted.now)
+        text.old.items text.new.items) }
+{
+    let name = wanted.name();
+    if is_listed(context.indices, name) {
+        return push_unfit(text, name);
+    }
+    if is_present(context, name) {
+        push_unlisted(text, name)
+    } else {
+        push_virtual(text, name, providers)
+    }
+}
+
+// The words on the pairs of these numbers.
+fn pairs_words(
+    context: &Context<'_, '_, '_, '_, '_>,
+    numbers: &[u32],
+) -> Result<Vec<u8>, AllocError>
+    ensures { IfOk result
+        (λ words. words.items ≡ Words.listed context.now.premises.now numbers.now) }
+{
+    let mut text = Vec::new(context.alloc());
+    context.push_pairs(&mut text, numbers)?;
+    Ok(text)
+}
+
+// The words on the package of the stanza.
+fn stanza_words(
+    context: &Context<'_, '_, '_, '_, '_>,
+    stanza: &IndexEntry<'_>,
+) -> Result<Vec<u8>, AllocError>
+    ensures { IfOk result (λ words. words.items ≡ Words.package_words stanza.now.pkg) }
+{
+    let version = stanza.version();
+    let mut text = Vec::new(context.alloc());
+    push_versioned(&mut text, stanza.name(), version.text())?;
+    Ok(text)
+}
+
+// Writes why no pair is what an install goal asks for, of which pairs provide the name.
+fn push_pairs_cause(
+    context: &Context<'_, '_, '_, '_, '_>,
+    text: &mut Vec<u8>,
+    wanted: &Wanted<'_>,
+    numbers: &[u32],
+) -> Result<(), AllocError>
+    requires unnamed { Causes.IsUnnamed context.now.premises.now context.now.indices.now
+        wanted.now }
+    requires numbers { AreNumbersOf context.now.premises.now (IsBy by.Provides wanted.now.name)
+        numbers.now }
+    ensures { OnOk result
+        (Words.Grows
+        (Goals.IsGoalCauseTold context.now.premises.now context.now.indices.now wanted.now)
+        text.old.items text.new.items) }
+{
+    let providers = pairs_words(context, numbers)?;
+    push_provided(context, text, wanted, providers.as_slice())
+}
+
+// Writes why no pair is what an install goal asks for, of which the package of the stanza provides the name.
+fn push_stanza_cause(
+    context: &Context<'_, '_, '_, '_, '_>,
+    text: &mut Vec<u8>,
+    wanted: &Wanted<'_>,
+    stanza: &IndexEntry<'_>,
+) -> Result<(), AllocError>
+    requires unnamed { Causes.IsUnnamed context.now.premises.now context.now.indices.now
+        wanted.now }
+    requires stanza { IsOneOf (IsLeftOutProvider context.now.premises.now wanted.now)
+        (stanzas_of context.now.indices.now) stanza.now }
+    ensures { OnOk result
+        (Words.Grows
+        (Goals.IsGoalCauseTold context.now.premises.now context.now.indices.now wanted.now)
+        text.old.items text.new.items) }
+{
+    let providers = stanza_words(context, stanza)?;
+    push_provided(context, text, wanted, providers.as_slice())
+}
+
+// Writes why no pair is what an install goal asks for, where this is the cause. A goal asks for a package of the name itself.
 fn push_goal_cause(
     context: &Context<'_, '_, '_, '_, '_>,
     text: &mut Vec<u8>,
     wanted: &Wanted<'_>,
-) -> Result<(), AllocError> {
-    text.extend_from_slice(b", but ")?;
-    let cause = cause_of(context, wanted)?;
-    // A goal asks for a package of the name itself.
-    match providers_in(context, &cause)? {
-        Some(providers) => push_provided(context, text, wanted.name, providers.as_slice()),
-        None => push_cause(context, text, wanted.name, &cause),
+    cause: &Cause<'_, '_>,
+) -> Result<(), AllocError>
+    requires { Causes.IsCause context.now.premises.now context.now.indices.now wanted.now
+        cause.now }
+    ensures { OnOk result
+        (Words.Grows
+        (Goals.IsGoalCauseTold context.now.premises.now context.now.indices.now wanted.now)
+        text.old.items text.new.items) }
+{
+    match cause {
+        Cause::Provided(numbers) => push_pairs_cause(context, text, wanted, numbers.as_slice()),
+        Cause::Elsewhere(stanza) => push_stanza_cause(context, text, wanted, *stanza),
+        _ => {
+            push_cause(context, text, wanted.name(), cause)?;
+            Ok(())
+        }
     }
+}
+
+// Why no pair satisfies an install goal.
+fn goal_cause(
+    context: &Context<'_, '_, '_, '_, '_>,
+    wanted: &Wanted<'_>,
+) -> Result<Vec<u8>, AllocError>
+    ensures { IfOk result
+        (λ text. Goals.IsInstallCauseTold context.now.premises.now context.now.indices.now
+        wanted.now text.items) }
+{
+    let cause = cause_of(context, wanted)?;
+    let mut text = Vec::new(context.alloc());
+    text.extend_from_slice(b", but ")?;
+    push_goal_cause(context, &mut text, wanted, &cause)?;
+    Ok(text)
 }
 
 // Why no pair satisfies an install goal, where these pairs are none.
@@ -76,12 +194,16 @@ fn cause_where_none(
     context: &Context<'_, '_, '_, '_, '_>,
     wanted: &Wanted<'_>,
     numbers: &[u32],
-) -> Result<Vec<u8>, AllocError> {
-    let mut why = Vec::new(context.alloc());
-    if numbers.is_empty() {
-        push_goal_cause(context, &mut why, wanted)?;
+) -> Result<Vec<u8>, AllocError>
+    ensures { IfOk result (λ text. numbers.now ≡ []
+        → Goals.IsInstallCauseTold context.now.premises.now context.now.indices.now wanted.now
+        text.items) }
+{
+    if is_none(numbers) {
+        goal_cause(context, wanted)
+    } else {
+        Ok(Vec::new(context.alloc()))
     }
-    Ok(why)
 }
 
 // Writes what an install goal asks for.
@@ -93,7 +215,7 @@ fn push_install(
     numbers: &[u32],
 ) -> Result<(), AllocError>
     ensures { OnOk result
-        (Spec.Grows (Spec.IsGoalTold context.now.premises.now numbers.now
+        (Words.Grows (Spec.IsGoalTold context.now.premises.now context.now.indices.now numbers.now
         (goal.Install name.now restriction.now))
         text.old.items text.new.items) }
 {
@@ -105,26 +227,71 @@ fn push_install(
     Ok(())
 }
 
-// Writes why no pair is the candidate of the name.
-fn push_without_candidate(
+// Writes that the name has no candidate, and its highest version.
+fn push_uncandidated(
     context: &Context<'_, '_, '_, '_, '_>,
     text: &mut Vec<u8>,
     name: &[u8],
-) -> Result<(), AllocError> {
-    text.extend_from_slice(b", but ")?;
-    match context.premises.start(name) {
-        Some(start) if start.is_held() => push_held(text, name, start.standing()),
-        start => {
-            text.extend_from_slice(name)?;
-            text.extend_from_slice(b" has no candidate: ")?;
-            push_highest(
-                context,
-                text,
-                name,
-                start.and_then(|start| start.standing()),
-            )
-        }
+) -> Result<(), AllocError>
+    requires { candidate_of context.now.premises.now name.now ≡ None }
+    ensures { OnOk result
+        (Words.Grows
+        (Goals.IsUncandidatedTold context.now.premises.now context.now.indices.now name.now)
+        text.old.items text.new.items) }
+{
+    text.extend_from_slice(name)?;
+    text.extend_from_slice(b" has no candidate: ")?;
+    push_highest(context, text, name)?;
+    Ok(())
+}
+
+// Writes the candidate of the name, which no pair is.
+fn push_candidate(
+    text: &mut Vec<u8>,
+    name: &[u8],
+    candidate: &Version<'_>,
+) -> Result<(), AllocError>
+    ensures { OnOk result
+        (text.new.items ≡ text.old.items
+        ++ (versioned name.now candidate.now ++ codes " is its candidate and is not admitted")) }
+{
+    push_versioned(text, name, candidate.text())?;
+    text.extend_from_slice(b" is its candidate and is not admitted")?;
+    Ok(())
+}
+
+// Writes why no pair is the candidate of the name.
+fn push_upgrade_cause(
+    context: &Context<'_, '_, '_, '_, '_>,
+    text: &mut Vec<u8>,
+    name: &[u8],
+) -> Result<(), AllocError>
+    ensures { OnOk result
+        (Words.Grows
+        (Goals.IsUpgradeCause context.now.premises.now context.now.indices.now name.now)
+        text.old.items text.new.items) }
+{
+    if context.is_held(name) {
+        return push_held(text, name, context.standing(name));
     }
+    // A candidate of the inputs is admitted, so that the first is never told of these.
+    let candidate = context.premises.candidate(name);
+    match candidate {
+        Some(candidate) => push_candidate(text, name, candidate),
+        None => push_uncandidated(context, text, name),
+    }
+}
+
+// Why no pair is the candidate of the name.
+fn upgrade_cause(context: &Context<'_, '_, '_, '_, '_>, name: &[u8]) -> Result<Vec<u8>, AllocError>
+    ensures { IfOk result
+        (λ text. Goals.IsUpgradeCauseTold context.now.premises.now context.now.indices.now
+        name.now text.items) }
+{
+    let mut text = Vec::new(context.alloc());
+    text.extend_from_slice(b", but ")?;
+    push_upgrade_cause(context, &mut text, name)?;
+    Ok(text)
 }
 
 // Why no pair is the candidate of the name, where these pairs are none.
@@ -132,12 +299,16 @@ fn without_candidate(
     context: &Context<'_, '_, '_, '_, '_>,
     name: &[u8],
     numbers: &[u32],
-) -> Result<Vec<u8>, AllocError> {
-    let mut why = Vec::new(context.alloc());
-    if numbers.is_empty() {
-        push_without_candidate(context, &mut why, name)?;
+) -> Result<Vec<u8>, AllocError>
+    ensures { IfOk result (λ text. numbers.now ≡ []
+        → Goals.IsUpgradeCauseTold context.now.premises.now context.now.indices.now name.now
+        text.items) }
+{
+    if is_none(numbers) {
+        upgrade_cause(context, name)
+    } else {
+        Ok(Vec::new(context.alloc()))
     }
-    Ok(why)
 }
 
 // Writes what an upgrade goal asks for.
@@ -148,7 +319,8 @@ fn push_upgrade(
     numbers: &[u32],
 ) -> Result<(), AllocError>
     ensures { OnOk result
-        (Spec.Grows (Spec.IsGoalTold context.now.premises.now numbers.now (goal.Upgrade name.now))
+        (Words.Grows (Spec.IsGoalTold context.now.premises.now context.now.indices.now
+        numbers.now (goal.Upgrade name.now))
         text.old.items text.new.items) }
 {
     let why = without_candidate(context, name.as_bytes(), numbers)?;
@@ -166,7 +338,8 @@ fn push_asked(
     numbers: &[u32],
 ) -> Result<(), AllocError>
     ensures { OnOk result
-        (Spec.Grows (Spec.IsGoalTold context.now.premises.now numbers.now asked.now)
+        (Words.Grows (Spec.IsGoalTold context.now.premises.now context.now.indices.now
+        numbers.now asked.now)
         text.old.items text.new.items) }
 {
     match asked {
@@ -184,9 +357,10 @@ pub(crate) fn push_goal(
     numbers: &[u32],
 ) -> Result<(), AllocError>
     ensures { OnOk result
-        (Spec.Grows (λ said. (asked : _) → item_at context.now.premises.now.goals number
+        (Words.Grows (λ said. (asked : _) → item_at context.now.premises.now.goals number
         ≡ Some asked
-        → Spec.IsGoalTold context.now.premises.now numbers.now asked said) text.old.items
+        → Spec.IsGoalTold context.now.premises.now context.now.indices.now numbers.now asked
+        said) text.old.items
         text.new.items) }
 {
     match context.premises.goal_at(number) {
@@ -203,7 +377,7 @@ fn push_asked_on(
     pair: u32,
 ) -> Result<(), AllocError>
     ensures { OnOk result
-        (Spec.Grows (Spec.IsGoalOnTold context.now.premises.now pair asked.now) text.old.items
+        (Words.Grows (Spec.IsGoalOnTold context.now.premises.now pair asked.now) text.old.items
         text.new.items) }
 {
     match asked {
@@ -231,7 +405,7 @@ pub(crate) fn push_goal_on(
     pair: u32,
 ) -> Result<(), AllocError>
     ensures { OnOk result
-        (Spec.Grows (λ said. (asked : _) → item_at context.now.premises.now.goals number
+        (Words.Grows (λ said. (asked : _) → item_at context.now.premises.now.goals number
         ≡ Some asked
         → Spec.IsGoalOnTold context.now.premises.now pair asked said) text.old.items
         text.new.items) }

@@ -1,17 +1,21 @@
 // Other versions of the indices that would do for a dependency, where something speaks against the one pair that can satisfy it.
 
-ghost use Rattle.std.specs.Prelude.{IfOk, OnOk, List, map};
-ghost use Rattle.rules.specs.Universe.{Universe};
+ghost use Rattle.std.specs.Prelude.{◌≡◌, IfOk, OnOk, List, Some, map};
+ghost use Rattle.std.specs.List.{All, Contains};
+ghost use Rattle.refutation.specs.Clause.{item_at};
 ghost use Rattle.refutation.specs.declared.line.Line.{Line};
+ghost use Rattle.refutation.specs.declared.line.Line.TheVariants as line;
+ghost use Rattle.refutation.specs.declared.line.Premise.TheVariants as claim;
 ghost use Rattle.refutation_sentences.specs.Sentences as Spec;
 
 use crate::basis::Basis;
 use crate::context::Context;
 use crate::lists::selected_in;
 use crate::needs::clause_at;
-use crate::unadmitted::push_reason;
+use crate::offers::Among;
+use crate::unadmitted::reason_of;
 use crate::wanted::Wanted;
-use debversion::Version;
+use index::IndexEntry;
 use indexmap::IndexSet;
 use phrases::push_versioned;
 use refutation::Premise;
@@ -56,28 +60,19 @@ fn is_opposed(
     }
 }
 
-// Why the version of the name isn't admitted.
-fn reason_of(
-    context: &Context<'_, '_, '_, '_, '_>,
-    name: &[u8],
-    version: &Version<'_>,
-) -> Result<Vec<u8>, AllocError> {
-    let mut text = Vec::new(context.alloc());
-    push_reason(context, &mut text, name, version)?;
-    Ok(text)
-}
-
-// The line that tells that the version would do for what is wanted too, and why it isn't admitted.
+// The line that tells that the version of the stanza would do for what is wanted too, and why it isn't admitted.
 fn line_on(
     context: &Context<'_, '_, '_, '_, '_>,
     wanted: &Wanted<'_>,
-    version: &Version<'_>,
+    stanza: &IndexEntry<'_>,
 ) -> Result<Vec<u8>, AllocError>
-    ensures { IfOk result (λ line. Spec.TellsAlternative line.items) }
+    ensures { IfOk result (λ line. Spec.IsAlternativeTold context.now.premises.now wanted.now
+        stanza.now line.items) }
 {
-    let why = reason_of(context, wanted.name, version)?;
+    let version = stanza.version();
+    let why = reason_of(context, wanted.name(), &version)?;
     let mut text = Vec::new(context.alloc());
-    push_versioned(&mut text, wanted.name, version.text())?;
+    push_versioned(&mut text, wanted.name(), version.text())?;
     text.extend_from_slice(b" would do for ")?;
     wanted.push_to(&mut text)?;
     text.extend_from_slice(b" too, and is not admitted: ")?;
@@ -93,16 +88,17 @@ fn tell_atom(
     atom: &Atom<'_>,
 ) -> Result<(), AllocError>
     ensures { OnOk result
-        ((u : Universe) (told : List Line)
-        → Spec.AreTruthful u told (map (λ key. key.items) lines.old.keys)
-        → Spec.AreTruthful u told (map (λ key. key.items) lines.new.keys)) }
+        (Spec.StaysTruthful context.now.premises.now context.now.indices.now
+        (λ told. Spec.HasAlternative context.now.premises.now told atom.now)
+        (map (λ key. key.items) lines.old.keys) (map (λ key. key.items) lines.new.keys)) }
 {
     let wanted = Wanted::by_atom(atom);
-    if wanted.is_foreign {
+    if wanted.is_foreign() {
         return Ok(());
     }
-    if let Some(version) = context.highest_left_out(&wanted) {
-        let line = line_on(context, &wanted, &version)?;
+    let highest = context.highest(&wanted, Among::LeftOut);
+    if let Some(stanza) = highest {
+        let line = line_on(context, &wanted, stanza)?;
         lines.insert(line)?;
     }
     Ok(())
@@ -115,9 +111,9 @@ fn tell_atoms(
     atoms: &[Atom<'_>],
 ) -> Result<(), AllocError>
     ensures { OnOk result
-        ((u : Universe) (told : List Line)
-        → Spec.AreTruthful u told (map (λ key. key.items) lines.old.keys)
-        → Spec.AreTruthful u told (map (λ key. key.items) lines.new.keys)) }
+        (Spec.StaysTruthful context.now.premises.now context.now.indices.now
+        (λ told. All (Spec.HasAlternative context.now.premises.now told) atoms.now)
+        (map (λ key. key.items) lines.old.keys) (map (λ key. key.items) lines.new.keys)) }
 {
     for atom in atoms {
         tell_atom(context, lines, atom)?;
@@ -133,13 +129,52 @@ fn tell_clause(
     clause: u32,
 ) -> Result<(), AllocError>
     ensures { OnOk result
-        ((u : Universe) (told : List Line)
-        → Spec.AreTruthful u told (map (λ key. key.items) lines.old.keys)
-        → Spec.AreTruthful u told (map (λ key. key.items) lines.new.keys)) }
+        (Spec.StaysTruthful context.now.premises.now context.now.indices.now
+        (λ told. (atoms : _) → item_at clauses.now clause ≡ Some atoms
+        → All (Spec.HasAlternative context.now.premises.now told) atoms)
+        (map (λ key. key.items) lines.old.keys) (map (λ key. key.items) lines.new.keys)) }
 {
     match clause_at(clauses, clause) {
         None => Ok(()),
         Some(clause) => tell_atoms(context, lines, clause.as_slice()),
+    }
+}
+
+// Puts the lines on the clause of this number of Pre-Depends of the pair behind the others.
+fn tell_pre_depends(
+    context: &Context<'_, '_, '_, '_, '_>,
+    lines: &mut IndexSet<Vec<u8>>,
+    number: u32,
+    clause: u32,
+) -> Result<(), AllocError>
+    ensures { OnOk result
+        (Spec.StaysTruthful context.now.premises.now context.now.indices.now
+        (λ told. Contains told (line.Premise (claim.PreDepends number clause)))
+        (map (λ key. key.items) lines.old.keys) (map (λ key. key.items) lines.new.keys)) }
+{
+    let read = context.premises.read_at(number)?;
+    match read {
+        None => Ok(()),
+        Some(member) => tell_clause(context, lines, member.pkg().pre_depends(), clause),
+    }
+}
+
+// Puts the lines on the clause of this number of Depends of the pair behind the others.
+fn tell_depends(
+    context: &Context<'_, '_, '_, '_, '_>,
+    lines: &mut IndexSet<Vec<u8>>,
+    number: u32,
+    clause: u32,
+) -> Result<(), AllocError>
+    ensures { OnOk result
+        (Spec.StaysTruthful context.now.premises.now context.now.indices.now
+        (λ told. Contains told (line.Premise (claim.Depends number clause)))
+        (map (λ key. key.items) lines.old.keys) (map (λ key. key.items) lines.new.keys)) }
+{
+    let read = context.premises.read_at(number)?;
+    match read {
+        None => Ok(()),
+        Some(member) => tell_clause(context, lines, member.pkg().depends(), clause),
     }
 }
 
@@ -150,19 +185,13 @@ fn tell_premise(
     premise: &Premise,
 ) -> Result<(), AllocError>
     ensures { OnOk result
-        ((u : Universe) (told : List Line)
-        → Spec.AreTruthful u told (map (λ key. key.items) lines.old.keys)
-        → Spec.AreTruthful u told (map (λ key. key.items) lines.new.keys)) }
+        (Spec.StaysTruthful context.now.premises.now context.now.indices.now
+        (λ told. Contains told (line.Premise premise.now))
+        (map (λ key. key.items) lines.old.keys) (map (λ key. key.items) lines.new.keys)) }
 {
     match premise {
-        Premise::PreDepends(number, clause) => match context.premises.read_at(*number)? {
-            None => Ok(()),
-            Some(read) => tell_clause(context, lines, read.pkg().pre_depends(), *clause),
-        },
-        Premise::Depends(number, clause) => match context.premises.read_at(*number)? {
-            None => Ok(()),
-            Some(read) => tell_clause(context, lines, read.pkg().depends(), *clause),
-        },
+        Premise::PreDepends(number, clause) => tell_pre_depends(context, lines, *number, *clause),
+        Premise::Depends(number, clause) => tell_depends(context, lines, *number, *clause),
         _ => Ok(()),
     }
 }
@@ -177,9 +206,9 @@ fn tell_opposed(
     told: usize,
 ) -> Result<usize, AllocError>
     ensures { OnOk result
-        ((u : Universe) (told : List Line)
-        → Spec.AreTruthful u told (map (λ key. key.items) lines.old.keys)
-        → Spec.AreTruthful u told (map (λ key. key.items) lines.new.keys)) }
+        (Spec.StaysTruthful context.now.premises.now context.now.indices.now
+        (λ told. Contains told (line.Premise basis.now.premise.now))
+        (map (λ key. key.items) lines.old.keys) (map (λ key. key.items) lines.new.keys)) }
 {
     if told >= TOLD || !is_opposed(context.alloc(), opposed, basis)? {
         return Ok(told);
@@ -195,8 +224,10 @@ pub(crate) fn instead_of(
     context: &Context<'_, '_, '_, '_, '_>,
     bases: &[Basis<'_>],
 ) -> Result<IndexSet<Vec<u8>>, AllocError>
-    ensures { IfOk result (λ lines. (u : Universe) (told : List Line)
-        → Spec.AreTruthful u told (map (λ key. key.items) lines.keys)) }
+    ensures { IfOk result (λ lines. (told : List Line)
+        → All (λ basis. Contains told (line.Premise basis.premise.now)) bases.now
+        → Spec.AreTruthful context.now.premises.now context.now.indices.now told
+        (map (λ key. key.items) lines.keys)) }
 {
     let opposed = opposed_by(context.alloc(), bases)?;
     let mut lines = IndexSet::new(context.alloc());

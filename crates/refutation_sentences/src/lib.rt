@@ -1,7 +1,6 @@
-// What a person is told of an accepted refutation: a core of its premises, of which none can be left out, and a sentence
-// for each of them, in an order in which each goes on from the one before. It stands on `refutecheck`, which judges each
-// core, on `search`, which finds it and is trusted with nothing, on `trim`, and on `input_notes`, which has priorities. The main
-// calls are `core` and `sentences`.
+// What a person is told of an accepted refutation: a core of its premises, and a sentence for each of them, in an order in which
+// each goes on from the one before. It stands on `refutecheck`, which judges each core, on `search`, which finds it and is trusted
+// with nothing, on `trim`, and on `input_notes`, which has priorities. The main calls are `core` and `sentences`.
 #![tactic(auto)]
 
 mod against;

@@ -2,7 +2,7 @@
 
 ghost use Rattle.std.specs.Prelude.{◌≡◌, ◌↔◌, ◌⊎◌, ◌++◌, ◌-◌, ℕ, IfOk, OnOk, length, map, take};
 ghost use Rattle.std.specs.List.{Contains};
-ghost use Rattle.refutation_sentences.specs.Sentences as Spec;
+ghost use Rattle.refutation_sentences.specs.Words as Words;
 
 use crate::context::Context;
 use indexmap::IndexSet;
@@ -62,7 +62,7 @@ fn first_in(numbers: &[u32]) -> &[u32]
 
 // How many pairs aren't told by their names: `2 others`.
 fn others_words(alloc: Global, count: usize) -> Result<Vec<u8>, AllocError>
-    ensures { IfOk result (λ words. words.items ≡ Spec.others_words count) }
+    ensures { IfOk result (λ words. words.items ≡ Words.others_words count) }
 {
     if count == 1 {
         return b"1 other".to_vec(alloc);
@@ -77,7 +77,7 @@ impl Context<'_, '_, '_, '_, '_> {
     // The name and the version of the pair of this number.
     fn pair_words(&self, number: u32) -> Result<Vec<u8>, AllocError>
         ensures { IfOk result
-            (λ words. words.items ≡ Spec.pair_words self.now.premises.now number) }
+            (λ words. words.items ≡ Words.pair_words self.now.premises.now number) }
     {
         let mut words = Vec::new(self.alloc());
         self.push_number(&mut words, number)?;
@@ -88,7 +88,7 @@ impl Context<'_, '_, '_, '_, '_> {
     fn each_pair(&self, numbers: &[u32]) -> Result<Vec<Vec<u8>>, AllocError>
         ensures { IfOk result
             (λ items. map (λ item. item.items) items.items
-            ≡ map (Spec.pair_words self.now.premises.now) numbers.now) }
+            ≡ map (Words.pair_words self.now.premises.now) numbers.now) }
     {
         let mut items = Vec::new(self.alloc());
         for number in numbers {
@@ -100,7 +100,7 @@ impl Context<'_, '_, '_, '_, '_> {
     /// Writes the pairs of these numbers: `foo 1, foo 2 or foo 3`, at most five of them by their names.
     pub(crate) fn push_pairs(&self, text: &mut Vec<u8>, numbers: &[u32]) -> Result<(), AllocError>
         ensures { OnOk result
-            (text.new.items ≡ text.old.items ++ Spec.listed self.now.premises.now numbers.now) }
+            (text.new.items ≡ text.old.items ++ Words.listed self.now.premises.now numbers.now) }
     {
         let mut items = self.each_pair(first_in(numbers))?;
         let others = numbers.len().saturating_sub(NAMED);
@@ -120,7 +120,7 @@ impl Context<'_, '_, '_, '_, '_> {
     ) -> Result<(), AllocError>
         ensures { OnOk result
             (text.new.items ≡ text.old.items
-            ++ Spec.satisfying self.now.premises.now numbers.now why.now) }
+            ++ Words.satisfying self.now.premises.now numbers.now why.now) }
     {
         match numbers {
             [] => text.extend_from_slice(why),

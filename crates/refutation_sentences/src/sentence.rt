@@ -4,6 +4,7 @@ ghost use Rattle.std.specs.Prelude.{IfOk, OnOk};
 ghost use Rattle.refutation.specs.Clause.{IsListOf};
 ghost use Rattle.refutation.specs.Premise.{IsInPremise};
 ghost use Rattle.refutation_sentences.specs.Sentences as Spec;
+ghost use Rattle.refutation_sentences.specs.Words as Words;
 
 use crate::against::{Field, push_against, push_same};
 use crate::basis::Basis;
@@ -23,7 +24,8 @@ fn push_premise(
     numbers: &[u32],
 ) -> Result<(), AllocError>
     ensures { OnOk result
-        (Spec.Grows (Spec.IsTold context.now.premises.now premise.now numbers.now) text.old.items
+        (Words.Grows (Spec.IsTold context.now.premises.now context.now.indices.now premise.now
+        numbers.now) text.old.items
         text.new.items) }
 {
     match premise {
@@ -54,7 +56,8 @@ pub(crate) fn sentence_of(
     requires { IsListOf
         (IsInPremise context.now.premises.now basis.now.premise.now) basis.now.clause }
     ensures { IfOk result
-        (λ line. Spec.IsSentence context.now.premises.now basis.now.premise.now line.items) }
+        (λ line. Spec.IsSentence context.now.premises.now context.now.indices.now
+        basis.now.premise.now line.items) }
 {
     let numbers = selected_in(context.alloc(), basis.clause.as_slice())?;
     let mut text = Vec::new(context.alloc());

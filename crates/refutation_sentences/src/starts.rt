@@ -1,7 +1,7 @@
 // What the start says.
 
 ghost use Rattle.std.specs.Prelude.{◌≡◌, ◌++◌, OnOk, codes};
-ghost use Rattle.refutation_sentences.specs.Sentences as Spec;
+ghost use Rattle.refutation_sentences.specs.Words as Words;
 
 use crate::context::Context;
 use std::alloc::AllocError;
@@ -14,7 +14,7 @@ pub(crate) fn push_hold(
 ) -> Result<(), AllocError>
     ensures { OnOk result
         (text.new.items ≡ text.old.items
-        ++ (Spec.pair_words context.now.premises.now number ++ codes " is held")) }
+        ++ (Words.pair_words context.now.premises.now number ++ codes " is held")) }
 {
     context.push_number(text, number)?;
     text.extend_from_slice(b" is held")

@@ -26,10 +26,11 @@ fn texts_of(
 ) -> Result<Vec<Vec<u8>>, AllocError>
     requires { All (Spec.IsBasis context.now.premises.now refutation.now) bases.now }
     ensures truthful { IfOk result
-        (λ texts. Spec.AreTruthful context.now.premises.now refutation.now
+        (λ texts. Spec.AreTruthful context.now.premises.now context.now.indices.now refutation.now
         (map (λ text. text.items) texts.items)) }
     ensures told { IfOk result
-        (λ texts. All (λ basis. Spec.HasSentence context.now.premises.now basis.premise.now
+        (λ texts. All (λ basis. Spec.HasSentence context.now.premises.now
+        context.now.indices.now basis.premise.now
         (map (λ text. text.items) texts.items)) bases.now) }
 {
     let mut texts = Vec::new(context.alloc());
@@ -176,7 +177,8 @@ pub fn sentences(
 ) -> Result<Vec<u8>, AllocError>
     // each line tells a premise of the refutation, or of a version that would do too, and each premise is told
     ensures { IfOk result
-        (λ text. Spec.AreSentences premises.now refutation.now all_versions text.items) }
+        (λ text. Spec.AreSentences premises.now indices.now refutation.now all_versions
+        text.items) }
 {
     let bases = bases_of(premises, refutation)?;
     let places = order_of(premises.alloc(), bases.as_slice())?;

@@ -1,7 +1,8 @@
 // What an atom or an install goal asks for.
 
-ghost use Rattle.std.specs.Prelude.{◌≡◌, ◌↔◌, ◌++◌, false, None, IsTrue, OnOk};
+ghost use Rattle.std.specs.Prelude.{◌≡◌, ◌↔◌, ◌++◌, false, IsTrue, OnOk};
 ghost use Rattle.std.specs.Option.{option_map};
+ghost use Rattle.index.specs.Providers.{plain_atom};
 ghost use Rattle.phrases.specs.Phrases.{wanted_words};
 ghost use Rattle.rules.specs.Package.{Meets, MeetsAsProvided};
 
@@ -15,9 +16,9 @@ use std::marker::Model;
 /// A name, maybe in a version that meets a restriction, and maybe of another architecture.
 #[derive(Drop)]
 pub(crate) struct Wanted<'q> {
-    pub(crate) name: &'q [u8],
-    pub(crate) restriction: Option<(Op, Version<'q>)>,
-    pub(crate) is_foreign: bool,
+    name: &'q [u8],
+    restriction: Option<(Op, Version<'q>)>,
+    is_foreign: bool,
 }
 
 impl<'q> Model for Wanted<'q> {
@@ -69,16 +70,29 @@ impl<'q> Wanted<'q> {
         }
     }
 
-    /// The same in any version.
-    pub(crate) fn in_any_version(&self) -> Wanted<'q>
-        ensures { result
-            ≡ record { name = self.now.name; restriction = None; foreign = self.now.foreign } }
+    /// The name, in any version.
+    pub(crate) fn of_name(name: &'q [u8]) -> Wanted<'q>
+        ensures { result ≡ plain_atom name.now }
     {
         Wanted {
-            name: self.name,
+            name,
             restriction: None,
-            is_foreign: self.is_foreign,
+            is_foreign: false,
         }
+    }
+
+    /// The name.
+    pub(crate) fn name(&self) -> &'q [u8]
+        ensures { result.now ≡ self.now.name }
+    {
+        self.name
+    }
+
+    /// Whether it is asked for of another architecture.
+    pub(crate) fn is_foreign(&self) -> bool
+        ensures { result ≡ self.now.foreign }
+    {
+        self.is_foreign
     }
 
     /// Whether the version meets the restriction, if there is one.

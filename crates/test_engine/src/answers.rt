@@ -58,7 +58,9 @@ fn judged(
         inputs,
         Some(plan),
         &SETTINGS,
-        &CheckPlan {},
+        &CheckPlan {
+            tells_reasons: false,
+        },
         &mut notes,
     )
 }
@@ -80,6 +82,7 @@ fn a_plan_is_judged_by_texts(rt: HostRuntime) {
 fn refuted(alloc: Global, inputs: &Inputs<'_, 'static>) -> Result<JudgedRefutation, Refusal> {
     let mut notes = Notes::new(alloc);
     let question = CheckRefutation {
+        tells_reasons: false,
         has_document: false,
     };
     ask_bytes(
@@ -112,6 +115,7 @@ fn is_plan(alloc: Global, solved: &Solved, wanted: &[u8]) -> Result<bool, AllocE
 const SOLVE: Solve = Solve {
     limit: 0,
     names_pairs: false,
+    tells_reasons: false,
     has_document: false,
 };
 

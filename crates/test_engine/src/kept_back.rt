@@ -44,6 +44,7 @@ fn shown(
     };
     let question = KeepBack {
         limit: 1000,
+        tells_reasons: false,
         has_document: false,
     };
     let mut notes = Notes::new(alloc);

@@ -64,13 +64,13 @@ Filename: pool/4
 ";
 
 // The document of the text `x` with the steps of the plan, and what the index says of them.
-fn document_of_plan(alloc: Global) -> Result<Vec<u8>, Failed> {
+fn document_of_plan(alloc: Global, index: &[u8]) -> Result<Vec<u8>, Failed> {
     let steps = read_plan(alloc, PLAN)?;
     let mut archives = Archives::of_steps(alloc, steps.as_slice())?;
-    let mut source = INDEX;
+    let mut source = index;
     read_archives(alloc, &mut source, b"amd64", &mut archives)?;
     let mut members = Members::new(alloc);
-    put_steps(alloc, &mut members, steps.as_slice(), &archives)?;
+    put_steps(alloc, &mut members, &archives)?;
     Ok(document(alloc, members, b"x")?)
 }
 
@@ -81,8 +81,59 @@ const OF_PLAN: &[u8] =
 
 #[test]
 fn a_plan_has_its_steps_and_the_archives_of_the_first_stanzas(rt: HostRuntime) {
-    let printed = document_of_plan(rt.alloc());
+    let printed = document_of_plan(rt.alloc(), INDEX);
     assert!(rt; matches!(&printed, Ok(line) if line.as_slice() == OF_PLAN));
+}
+
+// The document of the plan, where the index has this size.
+fn document_of_size(alloc: Global, size: &[u8]) -> Result<Vec<u8>, Failed> {
+    let mut index = Vec::from_slice(
+        alloc,
+        b"Package: foo\nVersion: 1.0\nArchitecture: all\nSize: ",
+    )?;
+    index.extend_from_slice(size)?;
+    document_of_plan(alloc, index.as_slice())
+}
+
+// The same document, where the step has this size.
+fn document_with_size(alloc: Global, size: &[u8]) -> Result<Vec<u8>, Failed> {
+    let mut line = Vec::from_slice(
+        alloc,
+        b"{\"counts\":{\"configure\":1,\"deconfigure\":0,\"purge\":0,\"remove\":0,\"unpack\":1},\
+\"steps\":[{\"action\":\"unpack\",\"filename\":null,\"name\":\"foo\",\"sha256\":null,\"size\":",
+    )?;
+    line.extend_from_slice(size)?;
+    line.extend_from_slice(
+        b",\"version\":\"1.0\"},{\"action\":\"configure\",\"names\":[\"bar\",\"foo\"]}],\"text\":\"x\"}\n",
+    )?;
+    Ok(line)
+}
+
+// Whether a size is printed as the row says.
+fn is_printed(alloc: Global, row: &str) -> Result<bool, Failed> {
+    let mut words = row.split(' ');
+    let size = words.next().unwrap_or("");
+    let wanted = words.next().unwrap_or("");
+    let printed = document_of_size(alloc, size.as_bytes())?;
+    let line = document_with_size(alloc, wanted.as_bytes())?;
+    Ok(printed.as_slice() == line.as_slice())
+}
+
+// A size as it stands in the index, and in the document.
+const SIZES: &str = "\
+0 0
+0012 12
++12 null
+12b null
+18446744073709551615 18446744073709551615
+18446744073709551616 null
+";
+
+#[test]
+fn a_size_is_digits_alone_of_64_bits(rt: HostRuntime) {
+    for row in SIZES.lines() {
+        assert!(rt; matches!(is_printed(rt.alloc(), row), Ok(true)), "{row}");
+    }
 }
 
 // The document of a text with a verdict.

@@ -125,7 +125,15 @@ fn judged<H: Host>(alloc: Global, host: &mut H) -> Result<JudgedPlan, Refusal> {
         openings: Openings::none(),
     };
     let mut notes = Notes::new(alloc);
-    ask_files(alloc, &mut shelf, &SETTINGS, &CheckPlan {}, &mut notes)
+    ask_files(
+        alloc,
+        &mut shelf,
+        &SETTINGS,
+        &CheckPlan {
+            tells_reasons: false,
+        },
+        &mut notes,
+    )
 }
 
 // Whether the outcome is this line on standard output, with the status of an answer that is yes.

@@ -1,17 +1,26 @@
--- The steps are put, and last the verdict.
-use Rattle.std.proofs.Common.{List, subst}
+-- What is told and the steps are put, and last the verdict.
+use Rattle.std.proofs.Common.{◌∙◌, List, ap, subst}
 use Rattle.cli.proofs.members.plan_members.Goals as goal
+use Rattle.cli.specs.Again.{archives_by}
+use Rattle.cli.specs.Members.{with_told}
+use Rattle.inputs.specs.Texts.{texts_of}
 use Rattle.json_answers.specs.Steps.{AreWithSteps}
 use Rattle.rules.specs.declared.step.Step.{Step}
+use Rattle.serde_json.specs.Data.{Members}
 use Rattle.serde_json.specs.View.{members_view}
 
 pub returns-clause-members : goal.returns-clause-members
-returns-clause-members g c =
-    let others = members_view c.put_sentences.new.members.map.entries in
+returns-clause-members g c at known =
+    let judged = c.args.judged.now in
+    let hints = c.args.hints.now in
+    let archives = archives_by (texts_of c.args.settings.now at) in
+    let told = members_view c.put_told.new.members.map.entries in
     let stepped = members_view c.put_plan.new.members.map.entries in
     record {
-      others = others;
+      hints = hints;
       stepped = stepped;
-      steps = subst (λ (steps : List Step). AreWithSteps steps others stepped) c.as_slice.ensures.value c.in_ok-put_plan.ensures.steps;
+      steps = subst (λ (old : Members). AreWithSteps archives judged.steps.items old stepped)
+          (c.in_ok-put_told.ensures ∙ ap (with_told judged.reasons hints) c.new-members.ensures)
+          (subst (λ (steps : List Step). AreWithSteps archives steps told stepped) c.as_slice.ensures.value (c.in_ok-put_plan.ensures.steps at known));
       answer = c.in_ok-put_verdict.ensures;
     }

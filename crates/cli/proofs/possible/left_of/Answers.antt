@@ -2,11 +2,13 @@
 use Rattle.std.proofs.Common.{List, subst, ℕ}
 use Rattle.cli.proofs.MemberLemmas.{added}
 use Rattle.cli.proofs.possible.left_of.Goals as goal
+use Rattle.cli.specs.Again.{archives_by}
 use Rattle.cli.specs.Members.{AreAddedIn, with_left}
+use Rattle.inputs.specs.Texts.{texts_of}
 use Rattle.serde_json.specs.View.{members_view}
 
 pub returns-clause-printed : goal.returns-clause-printed
-returns-clause-printed g c =
+returns-clause-printed g c at known =
     let kept = c.args.kept in
     let written = c.args.format in
     let old = members_view c.in_ok-members.members.map.entries in
@@ -17,6 +19,6 @@ returns-clause-printed g c =
       c.in_ok-plain.plain,
       new,
       c.in_ok-plain.ensures,
-      added written kept old new c.in_ok-members.ensures.members put,
+      added (archives_by (texts_of c.args.settings.now at)) written kept old new (c.in_ok-members.ensures.members at known) put,
       c.in_ok-printed.ensures,
     )

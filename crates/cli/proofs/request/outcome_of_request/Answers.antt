@@ -1,7 +1,10 @@
 -- What is printed is what is said of the texts of the files.
+use Rattle.std.proofs.Common.{Bool, subst}
 use Rattle.cli.proofs.ResultLemmas.{if_ok}
 use Rattle.cli.proofs.request.outcome_of_request.Goals as goal
 use Rattle.cli.specs.Calls.{IsOutcomeOfRequest, texts_at}
+use Rattle.cli.specs.Files.{shelved_at}
+use Rattle.cli_engine.specs.Solution.{IsSaidOfRequest}
 use Rattle.outcomes.specs.Outcome.{IsOutcomeIn}
 use Rattle.serde_json.specs.View.{members_view}
 
@@ -15,9 +18,15 @@ returns-clause-printed g c at known =
       c.ask_files-answer.result,
       c.in_ok-plain.plain,
       members,
-      c.ask_files-answer.ensures.said at known,
+      (
+        c.tells_reasons.result,
+        c.tells_reasons.ensures,
+        subst (λ (has : Bool).
+            IsSaidOfRequest texts c.args.limit c.args.names_pairs c.tells_reasons.result has c.ask_files-answer.result)
+            c.is_document.ensures (c.ask_files-answer.ensures.said at known),
+      ),
       c.in_ok-plain.ensures,
-      c.in_ok-members.ensures.members,
+      c.in_ok-members.ensures.members (shelved_at at c.args.arguments.now.paths) (c.ask_files-answer.ensures.texts at known),
       is,
     ))
     c.outcome_in.ensures

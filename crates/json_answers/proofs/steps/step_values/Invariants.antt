@@ -1,9 +1,8 @@
--- The objects of the steps so far.
-use Rattle.std.proofs.Common.{map, take}
-use Rattle.std.specs.List.{AllZip}
+-- The objects so far, and those of the steps that are left.
+use Rattle.std.proofs.Common.{◌≡◌, ◌++◌, drop, map}
 use Rattle.json_answers.proofs.steps.step_values.Given as goal
-use Rattle.json_answers.specs.Steps.{IsStepData}
+use Rattle.json_answers.specs.Steps.{steps_data}
 use Rattle.serde_json.specs.View.{view}
 
 abbrev pub invariant-loop-step : goal.invariant-loop-step
-invariant-loop-step l = AllZip IsStepData (take l.step-index l.steps) (map view l.values.items)
+invariant-loop-step l = map view l.values.items ++ steps_data (drop l.step-index l.steps) l.rest ≡ steps_data l.steps l.archives

@@ -1,7 +1,8 @@
 -- The words are those of the pairs and of the field between them.
 use Rattle.std.proofs.Common.{◌≡◌, ◌++◌, arith, refl}
 use Rattle.std.proofs.lemmas.Grind.{common_steps}
-use Rattle.refutation_sentences.specs.Sentences.{pair_words, verb_of}
+use Rattle.refutation_sentences.specs.Sentences.{verb_of}
+use Rattle.refutation_sentences.specs.Words.{pair_words}
 use Rattle.refutation_sentences.proofs.against.push_against.Goals as goal
 
 pub returns : goal.returns

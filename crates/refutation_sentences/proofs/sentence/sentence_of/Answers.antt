@@ -24,5 +24,5 @@ returns c =
         λ is. (c.in_ok-numbers.ensures number).1 ((clause (literal.Selected number)).1 is),
       ),
       last ∙ ap (λ text. text ++ codes ".\n") first,
-      subst (λ numbers. IsTold u premise numbers said) c.as_slice-2.ensures.keys grown.2,
+      subst (λ numbers. IsTold u c.args.context.now.indices.now premise numbers said) c.as_slice-2.ensures.keys grown.2,
     )

@@ -1,11 +1,11 @@
 -- What is refused before the plan is the first refusal; the steps are those of the plan that is read.
-use Rattle.std.proofs.Common.{◌∙◌, List, subst}
+use Rattle.std.proofs.Common.{◌≡◌, ◌∙◌, List, Ok, subst, sym}
 use Rattle.std.proofs.lemmas.Result.{err_from_is_err_and}
-use Rattle.rules.specs.Verdict.{IsVerdict}
 use Rattle.rules.specs.declared.step.Step.{Step}
 use Rattle.inputs.specs.ReadAs.{start_of}
 use Rattle.inputs.specs.Texts.{texts_of}
 use Rattle.inputs.proofs.ReadByLemmas.{read_on, then_wanting}
+use Rattle.cli_engine.specs.Answer.{plan_of}
 use Rattle.cli_engine.proofs.check.CheckPlanQuestion.answer.Goals as goal
 
 pub returns-in_err-steps-clause-said : goal.returns-in_err-steps-clause-said
@@ -15,9 +15,9 @@ returns-in_err-steps-clause-said g c = λ at known read.
     rw (p.1, p.2) (c.in_err-steps.ensures.refused at (texts_of c.args.before.now.settings.now at) c.in_ok-universe.field-0.universe
     (start_of c.args.before.now) (c.in_ok-universe.ensures.read.same ∙ known) denoted)
 
-pub returns-in_err-tell_judged-clause-read : goal.returns-in_err-tell_judged-clause-read
-returns-in_err-tell_judged-clause-read g c = then_wanting c.from_residual-in_err-tell_judged.result
-    (read_on g.met.S.Shelf.holds_on c.in_ok-universe.ensures.read c.in_ok-steps.ensures.read) c.from_residual-in_err-tell_judged.ensures.1
+pub returns-in_err-judged-clause-read : goal.returns-in_err-judged-clause-read
+returns-in_err-judged-clause-read g c = then_wanting c.from_residual-in_err-judged.result
+    (read_on g.met.S.Shelf.holds_on c.in_ok-universe.ensures.read c.in_ok-steps.ensures.read) c.from_residual-in_err-judged.ensures.1
 
 pub returns-clause-said : goal.returns-clause-said
 returns-clause-said g c = λ at known read.
@@ -29,8 +29,8 @@ returns-clause-said g c = λ at known read.
         steps = c.in_ok-steps.steps.items;
         denoted = (c.in_ok-universe.ensures.asked at known read).denoted;
         read = steps;
-        holds = subst (λ (ss : List Step). IsVerdict c.in_ok-universe.field-0.universe (start_of c.args.before.now) ss c.in_ok-verdict.verdict)
-            c.as_slice.ensures.value c.in_ok-verdict.ensures;
+        holds = c.in_ok-judged.ensures.exact;
       };
-      read = steps;
+      read = subst (λ (ss : List Step). plan_of at.judged ≡ Ok ss) (sym c.in_ok-judged.ensures.steps) steps;
+      reasons = c.in_ok-judged.ensures.reasons;
     }

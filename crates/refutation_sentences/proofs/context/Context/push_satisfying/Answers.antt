@@ -1,7 +1,7 @@
 -- Several satisfy.
 use Rattle.std.proofs.Common.{◌≡◌, ◌++◌, arith}
 use Rattle.std.specs.Prelude.{codes}
-use Rattle.refutation_sentences.specs.Sentences.{listed}
+use Rattle.refutation_sentences.specs.Words.{listed}
 use Rattle.refutation_sentences.proofs.GrowLemmas.{by_three, satisfying_many}
 use Rattle.refutation_sentences.proofs.context.Context.push_satisfying.Goals as goal
 

@@ -1,0 +1,5 @@
+-- The members are those of a document.
+use Rattle.cli.proofs.members.members_of_answered.Goals as goal
+
+pub returns-in-Json-clause-members : goal.returns-in-Json-clause-members
+returns-in-Json-clause-members g c = λ at known. rw c.in-Json.is (c.answered_members.ensures.members at known)

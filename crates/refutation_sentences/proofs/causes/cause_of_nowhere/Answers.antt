@@ -1,0 +1,12 @@
+-- The pairs provide the name that is asked for.
+use Rattle.std.proofs.Common.{List, ℕ, subst}
+use Rattle.refutation_sentences.specs.Offers.{AreNumbersOf, IsBy}
+use Rattle.refutation_sentences.specs.declared.offers.By.TheVariants as by
+use Rattle.refutation_sentences.proofs.causes.cause_of_nowhere.Goals as goal
+
+pub returns : goal.returns
+returns c = (
+  c.requires.unnamed,
+  subst (λ (name : List ℕ). AreNumbersOf c.args.context.now.premises.now (IsBy by.Provides name) c.in_ok-providing.providing.items) c.name-name.ensures
+      c.in_ok-providing.ensures,
+)

@@ -1,0 +1,9 @@
+-- What is found among the stanzas of the indices so far.
+use Rattle.std.proofs.Common.{take}
+use Rattle.std.specs.Option.{option_copied}
+use Rattle.input_notes.specs.Inputs.{stanzas_of}
+use Rattle.refutation_sentences.specs.Offers.{IsCounted, IsHighestIn}
+use Rattle.refutation_sentences.proofs.context.Context.highest.Given as goal
+
+abbrev pub invariant-loop-index : goal.invariant-loop-index
+invariant-loop-index l = IsHighestIn (IsCounted l.self.premises.now l.among l.wanted) (stanzas_of (take l.index-index l.self.indices.now)) (option_copied l.highest)
