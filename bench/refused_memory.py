@@ -2,7 +2,8 @@
 """refused_memory.py PROGRAM [--jobs N] [--most N] [PART..]: refuses each request for memory of a run in turn, the first, the
 second and so on, until a run meets no refusal; and once more so that all requests behind it are refused too. PROGRAM is
 debplan, linked dynamically. Each answer has to be `debplan: memory: E1 OutOfMemory` on standard error with status 5 and
-nothing on standard output, or exactly the one that the run has where nothing is refused. Of `apply` the journal that is left
+nothing on standard output, or exactly the one that the run has where nothing is refused; where it tells sentences, lines of
+them may be missing. Of `apply` the journal that is left
 shows steps of the plan from the first on, at least those that it had; there is no output, or the whole one; and a run that
 isn't refused then goes on to the same journal and output as one that never was. PART is a part of the name of a run, and
 without one all are made.
@@ -16,6 +17,7 @@ doesn't hold. Exit status: 0, 1 where something doesn't hold, 2 for wrong words.
 import argparse
 import collections
 import concurrent.futures
+import json
 import os
 import pathlib
 import subprocess
@@ -150,6 +152,15 @@ RUNS = [
 ]
 
 
+def told_in(ended):
+    """What a run answers without its sentences, and these, as lines."""
+    lines = ended.err.decode().splitlines()
+    if not ended.out.startswith(b"{"):
+        return ended.out, lines
+    document = json.loads(ended.out)
+    return document, [*lines, *document.pop("reasons", [])]
+
+
 # The runs, in a folder of their own
 
 
@@ -247,6 +258,15 @@ class Refusing:
             found = self.left("journal"), self.left("output")
             self.need(found == whole, what, "the next run left", *found)
 
+    # What is told
+
+    def is_own(self, ended, own):
+        """Whether it is its own answer, of which sentences are missing."""
+        if self.made.wanted != "told" or ended.status != own.status:
+            return False
+        (found, told), (wanted, all_told) = (told_in(it) for it in (ended, own))
+        return found == wanted and set(told) <= set(all_told)
+
     # All requests
 
     def refuse(self, how, number, own):
@@ -254,7 +274,7 @@ class Refusing:
         self.begin()
         ended, met = self.refused(how, number)
         what = f"request {number} ({met}) refused {how}:"
-        self.need(ended in (own, REFUSED) if met else ended == own, what, "it ended with", ended)
+        self.need(ended in (own, REFUSED) or self.is_own(ended, own) if met else ended == own, what, "it ended with", ended)
         if self.made.command == "apply":
             if ended == own:
                 self.need(self.left("output") == (self.made.rest.output and self.made.rest.output.encode()), what, "the output isn't whole")

@@ -86,7 +86,7 @@ IsReplyTo texts limit id (ask.keep_back request own) reply =
     IsReplyWhere {A = KeptBack} id (IsSaidOfKept (asking request texts) (unwrap_or own limit) true true) (λ kept. solved_text kept.answered)
     (AreOfKept no_archives) reply
 IsReplyTo texts limit id (ask.check_plan request plan) reply =
-    IsReplyWhere {A = JudgedPlan} id (IsSaid (asking request texts) (Some plan) true) (λ judged. verdict_line judged.verdict)
+    IsReplyWhere {A = JudgedPlan} id (IsSaid (asking request texts) (Some plan) true true) (λ judged. verdict_line judged.verdict)
     (AreOfPlan no_archives) reply
 IsReplyTo texts limit id (ask.check_refutation request refutation) reply =
     IsReplyWhere {A = JudgedRefutation} id (IsSaidOf (asking request texts) (Some refutation) true true) (λ judged. refutation_line judged.verdict)

@@ -49,17 +49,28 @@ pub(crate) fn show(explains: bool, notes: &mut Notes) {
     }
 }
 
-/// What is shown of an answer that is explained: its reasons, and the hints behind them; of another one nothing is. Memory alone can fail.
-pub(crate) fn shown(
-    alloc: Global,
-    explains: bool,
-    reasons: &[u8],
-    hints: &[u8],
-) -> Result<Vec<u8>, AllocError> {
-    if !explains {
-        return Ok(Vec::new(alloc));
-    }
+// What is told of an answer, and the hints behind it.
+fn text_of(alloc: Global, reasons: &[u8], hints: &[u8]) -> Result<Vec<u8>, AllocError> {
     let mut text = reasons.to_vec(alloc)?;
     text.extend_from_slice(hints)?;
     Ok(text)
+}
+
+/// What is shown of an answer that is explained: its reasons, and the hints behind them; of another one nothing is. Where memory is refused
+/// for it, nothing is shown.
+pub(crate) fn shown(alloc: Global, explains: bool, reasons: &[u8], hints: &[u8]) -> Vec<u8> {
+    if !explains {
+        return Vec::new(alloc);
+    }
+    match text_of(alloc, reasons, hints) {
+        Ok(text) => text,
+        Err(AllocError) => Vec::new(alloc),
+    }
+}
+
+/// Leaves nothing told where memory was refused for words: the answer stands without them.
+pub(crate) fn unless_refused(told: Result<(), AllocError>, notes: &mut Notes) {
+    if told.is_err() {
+        notes.text.clear();
+    }
 }

@@ -6,7 +6,7 @@ ghost use Rattle.cli.specs.Members.{AreMembersOf, AreOfCandidates};
 ghost use Rattle.serde_json.specs.View.{members_view};
 
 use crate::arguments::Arguments;
-use crate::asking::{context_if, show, want};
+use crate::asking::{context_if, show, unless_refused, want};
 use crate::candidate_members::members_of_names;
 use crate::files::{HostShelf, Openings, ask_files};
 use crate::host::Host;
@@ -71,7 +71,7 @@ pub(crate) fn outcome_of_names<H: Host>(
         tells_versions: explains,
     };
     let answer = ask_files(alloc, &mut shelf, &settings, &question, notes);
-    tell_refusal(alloc, &answer, &shelf, notes)?;
+    unless_refused(tell_refusal(alloc, &answer, &shelf, notes), notes);
     let members = members_of(alloc, format, names, &answer, notes.text.as_slice())?;
     show(explains, notes);
     let plain = outcome_of_candidates(alloc, names, &answer)?;

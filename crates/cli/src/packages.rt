@@ -9,7 +9,7 @@ ghost use Rattle.command_line.specs.Asked.{survey_by};
 ghost use Rattle.installable.specs.Answers.{IsSaidOfPackages};
 
 use crate::arguments::Arguments;
-use crate::asking::{context_if, is_document};
+use crate::asking::{context_if, is_document, unless_refused};
 use crate::files::{HostShelf, Openings, ask_files};
 use crate::host::Host;
 use crate::refutations::{files_of_survey, put_files};
@@ -71,7 +71,7 @@ fn said_of_packages<H: Host>(
         openings: Openings::none(),
     };
     let said = ask_files(alloc, &mut shelf, &settings, question, &mut ());
-    tell_refusal(alloc, &said, &shelf, notes)?;
+    unless_refused(tell_refusal(alloc, &said, &shelf, notes), notes);
     Ok(said)
 }
 
@@ -204,6 +204,6 @@ pub(crate) fn outcome_of_packages<H: Host>(
     notes.wanted = arguments.explains;
     let question = question_of(survey, arguments.explains || is_document(arguments.format));
     let said = said_of_packages(alloc, host, arguments, &question, notes)?;
-    tell_survey(alloc, &said, notes)?;
+    unless_refused(tell_survey(alloc, &said, notes), notes);
     outcome_of_said(alloc, host, folder, arguments.format, &said)
 }

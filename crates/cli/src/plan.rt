@@ -8,7 +8,7 @@ ghost use Rattle.inputs.specs.Texts.{Shelved, texts_of};
 ghost use Rattle.serde_json.specs.View.{members_view};
 
 use crate::arguments::Arguments;
-use crate::asking::{context_if, shown, tells_reasons, want};
+use crate::asking::{context_if, is_document, shown, tells_reasons, unless_refused, want};
 use crate::files::{HostShelf, Openings, ask_files};
 use crate::host::Host;
 use crate::members::{members_of_plan, reasons_in};
@@ -86,10 +86,11 @@ pub(crate) fn outcome_of_plan_judged<H: Host>(
     };
     let question = CheckPlan {
         tells_reasons: tells_reasons(explains, format),
+        has_document: is_document(format),
     };
     let answer = ask_files(alloc, &mut shelf, &settings, &question, notes);
-    tell_refusal(alloc, &answer, &shelf, notes)?;
-    tell_judged(&answer, notes)?;
+    unless_refused(tell_refusal(alloc, &answer, &shelf, notes), notes);
+    unless_refused(tell_judged(&answer, notes), notes);
     let members = members_of(
         alloc,
         &mut shelf,
@@ -98,7 +99,7 @@ pub(crate) fn outcome_of_plan_judged<H: Host>(
         &answer,
         notes.text.as_slice(),
     )?;
-    let text = shown(alloc, explains, reasons_of(&answer), notes.text.as_slice())?;
+    let text = shown(alloc, explains, reasons_of(&answer), notes.text.as_slice());
     notes.text = text;
     let plain = outcome_of_plan(alloc, &answer)?;
     outcome_in(alloc, format, plain, members)

@@ -10,7 +10,7 @@ ghost use Rattle.cli.specs.Possible.{IsOutcomeOfPossible, IsPrintedOfKept, IsPri
 ghost use Rattle.inputs.specs.Texts.{Shelved, texts_of};
 
 use crate::arguments::Arguments;
-use crate::asking::{context_if, is_document, show, shown, tells_reasons, want};
+use crate::asking::{context_if, is_document, show, shown, tells_reasons, unless_refused, want};
 use crate::files::{HostShelf, Openings, ask_files};
 use crate::host::{Host, PutError};
 use crate::left_members::put_left;
@@ -104,7 +104,7 @@ fn outcome_of_request_put(
 {
     match put {
         Ok(()) => {
-            show_left(left.notes.as_slice(), notes)?;
+            unless_refused(show_left(left.notes.as_slice(), notes), notes);
             Ok(left.printed)
         }
         Err(PutError::Unwritten) => outcome_of_unwritten_request(alloc),
@@ -147,7 +147,7 @@ fn outcome_of_left<H: Host>(
 {
     match output {
         None => {
-            show_left(left.notes.as_slice(), notes)?;
+            unless_refused(show_left(left.notes.as_slice(), notes), notes);
             Ok(left.printed)
         }
         Some(path) => outcome_of_put(alloc, host, path, left, notes),
@@ -188,12 +188,12 @@ fn answer_of_possible<H: Host>(
         has_document: is_document(format),
     };
     let answer = ask_files(alloc, &mut shelf, &settings, &question, notes);
-    tell_refusal(alloc, &answer, &shelf, notes)?;
-    tell_left(&answer, notes)?;
+    unless_refused(tell_refusal(alloc, &answer, &shelf, notes), notes);
+    unless_refused(tell_left(&answer, notes), notes);
     match answer {
         Ok(kept) => {
             let reasons = reasons_in(&kept.answered.reasons);
-            let text = shown(alloc, explains, reasons, notes.text.as_slice())?;
+            let text = shown(alloc, explains, reasons, notes.text.as_slice());
             let left = left_of(
                 alloc,
                 &mut shelf,

@@ -6,7 +6,7 @@ ghost use Rattle.cli.specs.Members.{AreMembersOf, AreOfRefutation};
 ghost use Rattle.serde_json.specs.View.{members_view};
 
 use crate::arguments::Arguments;
-use crate::asking::{context_if, is_document, shown, tells_reasons, want};
+use crate::asking::{context_if, is_document, shown, tells_reasons, unless_refused, want};
 use crate::files::{HostShelf, Openings, ask_files};
 use crate::host::Host;
 use crate::members::{members_of_refutation, reasons_in};
@@ -73,9 +73,9 @@ pub(crate) fn outcome_of_lines<H: Host>(
         has_document: is_document(format),
     };
     let answer = ask_files(alloc, &mut shelf, &settings, &question, notes);
-    tell_refusal(alloc, &answer, &shelf, notes)?;
+    unless_refused(tell_refusal(alloc, &answer, &shelf, notes), notes);
     let plain = outcome_of_refutation(alloc, &answer)?;
-    let text = shown(alloc, explains, reasons_of(&answer), notes.text.as_slice())?;
+    let text = shown(alloc, explains, reasons_of(&answer), notes.text.as_slice());
     let members = members_of(alloc, format, answer, notes.text.as_slice())?;
     notes.text = text;
     outcome_in(alloc, format, plain, members)

@@ -291,7 +291,7 @@ fn reply_to_plan<'i, 'a>(
     requires { IsListed before.now listing.now }
     ensures { (texts : Texts) → AreReadAs texts before.now
         → IfOk result (λ reply. IsReplyWhere (view id)
-        (IsSaid (asking request.now texts) (Some plan.now) true)
+        (IsSaid (asking request.now texts) (Some plan.now) true true)
         (λ judged. Lines.verdict_line judged.verdict) (AreOfPlan no_archives) reply.items) }
 {
     let question = GivenPlan { plan };

@@ -8,7 +8,7 @@ ghost use Rattle.inputs.specs.Texts.{Shelved, texts_of};
 ghost use Rattle.serde_json.specs.View.{members_view};
 
 use crate::arguments::Arguments;
-use crate::asking::{context_if, is_document, shown, tells_reasons, want};
+use crate::asking::{context_if, is_document, shown, tells_reasons, unless_refused, want};
 use crate::files::{HostShelf, Openings, ask_files};
 use crate::host::Host;
 use crate::members::{members_of_answered, reasons_in};
@@ -93,10 +93,10 @@ pub(crate) fn outcome_of_request<H: Host>(
         has_document: is_document(format),
     };
     let answer = ask_files(alloc, &mut shelf, &settings, &question, notes);
-    tell_refusal(alloc, &answer, &shelf, notes)?;
-    tell_answered(&answer, notes)?;
+    unless_refused(tell_refusal(alloc, &answer, &shelf, notes), notes);
+    unless_refused(tell_answered(&answer, notes), notes);
     let plain = outcome_of_solved(alloc, &answer)?;
-    let text = shown(alloc, explains, reasons_of(&answer), notes.text.as_slice())?;
+    let text = shown(alloc, explains, reasons_of(&answer), notes.text.as_slice());
     let members = members_of(
         alloc,
         &mut shelf,

@@ -3,3 +3,4 @@ pub mod NameLemmas
 pub mod RefutedLemmas
 pub mod RightLemmas
 pub mod SolvableLemmas
+pub mod ToldLemmas

@@ -1,5 +1,5 @@
 -- What is told of an answer, for a person to read (this project's own form; docs/FORMATS.md, "Sentences").
-use Rattle.std.specs.Prelude.{◌≡◌, ◌++◌, ℕ, Bool, true, false, List, [], MatchOption, Option, Some, None, codes, decimal}
+use Rattle.std.specs.Prelude.{◌≡◌, ◌++◌, ◌&&◌, ℕ, Bool, true, false, List, [], MatchOption, Option, Some, None, Result, Ok, Err, codes, decimal}
 use Rattle.candidates.specs.Inputs.{indices_of}
 use Rattle.index.specs.Index.{ReadIndex}
 use Rattle.named_lines.specs.declared.numbering.Missing.{Missing}
@@ -24,6 +24,15 @@ use Rattle.trim.specs.Needed.{ArePremisesOf}
 -- there is one exactly where it is wanted, and the fact holds of it
 abbrev pub HasWhere : {A : Type 0} → Bool → (A → Type 0) → Option A → Type 0
 HasWhere wanted Holds made = MatchOption made (wanted ≡ false) (λ value. (wanted ≡ true) × Holds value)
+
+-- it is told where it is wanted, so that the fact holds of it; memory may have been refused for it, but not where it is needed
+abbrev pub IsToldWhere : Bool → Bool → (List ℕ → Type 0) → Option (List ℕ) → Type 0
+IsToldWhere wanted needed Holds told = MatchOption told ((wanted && needed) ≡ false) (λ text. (wanted ≡ true) × Holds text)
+
+-- it is this text where there is one; where memory was refused for it there is none, but not in a document
+abbrev pub IsToldIn : {V E : Type 0} → (V → List ℕ) → Bool → Result V E → Option (List ℕ) → Type 0
+IsToldIn items has_document (Ok text) told = told ≡ Some (items text)
+IsToldIn items has_document (Err wanting) told = (has_document ≡ false) × (told ≡ None)
 
 -- Of a refutation
 

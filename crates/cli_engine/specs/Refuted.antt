@@ -18,7 +18,7 @@ use Rattle.rules.specs.Universe.{Universe}
 use Rattle.written_refutation.specs.Judged.{IsWrittenAccepted, IsWrittenVerdict, lines_of}
 use Rattle.written_refutation.specs.Written.{read_written}
 use Rattle.written_refutation.specs.declared.written.WrittenRefutation.{WrittenRefutation}
-use Rattle.cli_engine.specs.Reasons.{HasWhere, TellsRefutation}
+use Rattle.cli_engine.specs.Reasons.{IsToldWhere, TellsRefutation}
 use Rattle.cli_engine.specs.Solution.{HasLines}
 use Rattle.cli_engine.specs.declared.check_refutation.JudgedRefutation.{JudgedRefutation}
 
@@ -73,7 +73,7 @@ pub record IsJudgedRefutation (texts : Texts) (refutation : Found) (tells_reason
   pub asked : DenotesAsked texts answer.universe answer.start all_versions
   pub indices : List Index
   pub indexed : HasIndices texts indices
-  pub reasons : HasWhere tells_reasons (TellsRefutation answer.universe indices (lines_of answer.universe.pairs answer.written) all_versions judged.verdict) judged.reasons
+  pub reasons : IsToldWhere tells_reasons has_document (TellsRefutation answer.universe indices (lines_of answer.universe.pairs answer.written) all_versions judged.verdict) judged.reasons
   pub lines : HasLines answer.universe has_document (lines_of answer.universe.pairs answer.written).lines judged.members
 
 -- what is said of a refutation: its answer, with the reasons where they are wanted and the lines where there is a document, or the first

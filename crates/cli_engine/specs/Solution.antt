@@ -19,7 +19,7 @@ use Rattle.solver.specs.Solved.{IsSolved}
 use Rattle.solver.specs.declared.solved.Solved.{Solved}
 use Rattle.solver.specs.declared.solved.Solved.TheVariants as solved
 use Rattle.written_refutation.specs.Written.{naming_text}
-use Rattle.cli_engine.specs.Reasons.{HasWhere, TellsSolved}
+use Rattle.cli_engine.specs.Reasons.{HasWhere, IsToldWhere, TellsSolved}
 use Rattle.cli_engine.specs.declared.solve.Answered.{Answered}
 
 -- the text of a refutation with the pairs named, where that is asked for and the answer is one
@@ -51,7 +51,7 @@ pub record IsSolution (texts : Texts) (limit : ℕ) (names_pairs tells_reasons h
   pub naming : answered.naming ≡ naming_for names_pairs universe.pairs answered.solved
   pub indices : List Index
   pub indexed : HasIndices texts indices
-  pub reasons : HasWhere tells_reasons (TellsSolved universe indices start answered.asks_all_versions answered.solved) answered.reasons
+  pub reasons : IsToldWhere tells_reasons has_document (TellsSolved universe indices start answered.asks_all_versions answered.solved) answered.reasons
   pub lines : HasSolvedLines universe has_document answered.solved answered.members
 
 -- what texts denote can be solved

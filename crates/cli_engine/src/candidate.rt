@@ -91,8 +91,8 @@ impl<'n> FindCandidates<'n> {
             candidates.as_slice(),
             self.tells_versions,
             notes,
-        )?;
-        tell_idle_inputs(alloc, before, notes)?;
+        );
+        tell_idle_inputs(alloc, before, notes);
         Ok(Items::new(candidates))
     }
 }

@@ -6,7 +6,7 @@ ghost use Rattle.plan_sentences.specs.No.{TellsVerdict};
 ghost use Rattle.rules.specs.Verdict.{IsBuiltOn, IsVerdict};
 ghost use Rattle.status_text.specs.Slot.{slot_records};
 ghost use Rattle.cli_engine.specs.Meaning.{IsSaid};
-ghost use Rattle.cli_engine.specs.Reasons.{HasWhere};
+ghost use Rattle.cli_engine.specs.Reasons.{IsToldWhere};
 
 use crate::judged::reasons_of_plan;
 use crate::notes::Notes;
@@ -38,6 +38,8 @@ pub struct JudgedPlan {
 pub struct CheckPlan {
     /// Whether it is told what stands against the plan, or what it changes.
     pub tells_reasons: bool,
+    /// Whether there is to be a document of the answer, which has what is told.
+    pub has_document: bool,
 }
 
 /// Judges the steps from this status file on.
@@ -66,13 +68,14 @@ pub(crate) fn judged_plan<'a>(
     universe: &Universe<'_, 'a>,
     steps: Vec<Step>,
     tells_reasons: bool,
+    has_document: bool,
     notes: &mut Notes,
 ) -> Result<JudgedPlan, AllocError>
     requires { IsBuiltOn (start_of before.now) universe.now }
     ensures steps { IfOk result (λ judged. judged.steps.items ≡ steps.items) }
     ensures exact { IfOk result
         (λ judged. IsVerdict universe.now (start_of before.now) steps.items judged.verdict) }
-    ensures reasons { IfOk result (λ judged. HasWhere tells_reasons
+    ensures reasons { IfOk result (λ judged. IsToldWhere tells_reasons has_document
         (TellsVerdict universe.now (start_of before.now) steps.items judged.verdict)
         judged.reasons) }
     ensures unasked { notes.old.wanted ≡ false → notes.new ≡ notes.old }
@@ -85,8 +88,9 @@ pub(crate) fn judged_plan<'a>(
         steps.as_slice(),
         &verdict,
         tells_reasons,
+        has_document,
     )?;
-    tell_idle_inputs(alloc, before, notes)?;
+    tell_idle_inputs(alloc, before, notes);
     Ok(JudgedPlan {
         verdict,
         steps,
@@ -99,7 +103,7 @@ impl Question for CheckPlan {
 
     type Beside = Notes;
 
-    ghost says = { λ it texts judged _ result _. IsSaid texts judged it.tells_reasons result };
+    ghost says = { λ it texts judged _ result _. IsSaid texts judged it.tells_reasons it.has_document result };
 
     ghost keeps = { λ _ _ old _ new. old.wanted ≡ false → new ≡ old };
 
@@ -112,7 +116,15 @@ impl Question for CheckPlan {
     ) -> Result<JudgedPlan, Refusal> {
         let Requested { universe, .. } = read_asked(alloc, shelf, before, notes)?;
         let steps = read_steps(alloc, shelf)?;
-        let judged = judged_plan(alloc, before, &universe, steps, self.tells_reasons, notes)?;
+        let judged = judged_plan(
+            alloc,
+            before,
+            &universe,
+            steps,
+            self.tells_reasons,
+            self.has_document,
+            notes,
+        )?;
         Ok(judged)
     }
 

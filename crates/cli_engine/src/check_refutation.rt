@@ -11,7 +11,7 @@ ghost use Rattle.inputs.specs.declared.refusal.Fault.TheVariants as fault;
 ghost use Rattle.rules.specs.Database.{Record};
 ghost use Rattle.rules.specs.Universe.{Universe as UniverseOf};
 ghost use Rattle.written_refutation.specs.Judged.{IsWrittenVerdict, lines_of};
-ghost use Rattle.cli_engine.specs.Reasons.{HasWhere, TellsRefutation};
+ghost use Rattle.cli_engine.specs.Reasons.{IsToldWhere, TellsRefutation};
 ghost use Rattle.cli_engine.specs.Refuted.{IsFirstRefutationRefusal, IsSaidOf, refutation_of};
 ghost use Rattle.cli_engine.specs.Solution.{HasLines};
 
@@ -110,7 +110,7 @@ pub(crate) fn judged_refutation(
     requires { IsOver before.now requested.now.universe }
     ensures exact { IfOk result
         (λ judged. IsWrittenVerdict requested.now.universe written judged.verdict) }
-    ensures reasons { IfOk result (λ judged. HasWhere tells_reasons
+    ensures reasons { IfOk result (λ judged. IsToldWhere tells_reasons has_document
         (TellsRefutation requested.now.universe (indices_of before.now.indices.now)
         (lines_of requested.now.universe.pairs written)
         requested.now.asks_all_versions judged.verdict) judged.reasons) }
@@ -128,8 +128,9 @@ pub(crate) fn judged_refutation(
         &numbered,
         verdict,
         tells_reasons,
+        has_document,
     )?;
-    tell_idle_inputs(alloc, before, notes)?;
+    tell_idle_inputs(alloc, before, notes);
     Ok(JudgedRefutation {
         verdict,
         reasons,

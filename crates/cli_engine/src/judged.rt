@@ -3,7 +3,7 @@ ghost use Rattle.std.specs.Prelude.{IfOk};
 ghost use Rattle.plan_sentences.specs.No.{TellsVerdict};
 ghost use Rattle.rules.specs.Verdict.{IsBuiltOn, IsVerdict};
 ghost use Rattle.status_text.specs.Slot.{slot_records};
-ghost use Rattle.cli_engine.specs.Reasons.{HasWhere};
+ghost use Rattle.cli_engine.specs.Reasons.{IsToldIn, IsToldWhere};
 
 use plan_sentences::verdict_sentences;
 use plancheck_state::{parse_packages, view};
@@ -34,6 +34,25 @@ pub(crate) fn sentences_on<'a>(
     Ok(text)
 }
 
+/// What is told, where memory isn't refused for it. A document has what is told, and so memory that is refused for that is refused for
+/// the document.
+pub(crate) fn told_in(
+    text: Result<Vec<u8>, AllocError>,
+    has_document: bool,
+) -> Result<Option<Items<u8>>, AllocError>
+    ensures { IfOk result (IsToldIn (λ text. text.items) has_document text) }
+{
+    match text {
+        Ok(text) => Ok(Some(Items::new(text))),
+        Err(AllocError) => {
+            if has_document {
+                return Err(AllocError);
+            }
+            Ok(None)
+        }
+    }
+}
+
 /// What stands against the plan, if its verdict is a no, and what it changes, if it is yes, where that is wanted. It costs what
 /// `sentences_on` costs. Memory alone can fail.
 pub(crate) fn reasons_of_plan<'a>(
@@ -43,16 +62,17 @@ pub(crate) fn reasons_of_plan<'a>(
     steps: &[Step],
     verdict: &Verdict,
     tells_reasons: bool,
+    has_document: bool,
 ) -> Result<Option<Items<u8>>, AllocError>
     requires built { IsBuiltOn (slot_records status_file.now.slots) universe.now }
     requires verdict { IsVerdict universe.now
         (slot_records status_file.now.slots) steps.now verdict.now }
-    ensures { IfOk result (HasWhere tells_reasons
+    ensures { IfOk result (IsToldWhere tells_reasons has_document
         (TellsVerdict universe.now (slot_records status_file.now.slots) steps.now verdict.now)) }
 {
     if !tells_reasons {
         return Ok(None);
     }
-    let text = sentences_on(alloc, status_file, universe, steps, verdict)?;
-    Ok(Some(Items::new(text)))
+    let text = sentences_on(alloc, status_file, universe, steps, verdict);
+    told_in(text, has_document)
 }

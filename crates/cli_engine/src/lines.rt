@@ -3,7 +3,7 @@
 ghost use Rattle.std.specs.Prelude.{◌≡◌, IfOk};
 ghost use Rattle.candidates.specs.Inputs.{indices_of};
 ghost use Rattle.inputs.specs.ReadAs.{IsOver, start_of};
-ghost use Rattle.cli_engine.specs.Reasons.{HasWhere, TellsSolved};
+ghost use Rattle.cli_engine.specs.Reasons.{IsToldWhere, TellsSolved};
 ghost use Rattle.cli_engine.specs.Right.{IsRight};
 ghost use Rattle.cli_engine.specs.Solution.{HasLines, HasSolvedLines, naming_for};
 
@@ -95,7 +95,7 @@ pub fn answer_of_solved<'a>(
     ensures naming { IfOk result
         (λ answered. answered.naming ≡ naming_for names_pairs requested.now.universe.pairs solved) }
     ensures reasons { IfOk result
-        (λ answered. HasWhere tells_reasons
+        (λ answered. IsToldWhere tells_reasons has_document
         (TellsSolved requested.now.universe
         (indices_of before.now.indices.now) (start_of before.now)
         answered.asks_all_versions answered.solved) answered.reasons) }
@@ -104,7 +104,14 @@ pub fn answer_of_solved<'a>(
 {
     let universe = &requested.universe;
     let naming = naming_of(alloc, universe, &solved, names_pairs)?;
-    let reasons = reasons_of_solved(alloc, before, requested, &solved, tells_reasons)?;
+    let reasons = reasons_of_solved(
+        alloc,
+        before,
+        requested,
+        &solved,
+        tells_reasons,
+        has_document,
+    )?;
     let members = solved_members(alloc, universe, &solved, has_document)?;
     Ok(Answered {
         solved,

@@ -29,6 +29,18 @@ impl Notes {
         }
     }
 
+    /// One more piece of their text, where they are wanted and memory isn't refused for it.
+    pub fn add_told(&mut self, piece: Result<Vec<u8>, AllocError>)
+        ensures unasked { self.old.wanted ≡ false → self.new ≡ self.old }
+    {
+        if !self.wanted {
+            return;
+        }
+        if let Ok(text) = piece {
+            let _ = self.text.extend_from_slice(text.as_slice());
+        }
+    }
+
     /// One more piece of their text, where they are wanted. Memory alone can fail.
     pub fn add(&mut self, piece: &[u8]) -> Result<(), AllocError>
         ensures added { OnOk result (self.new.text.items

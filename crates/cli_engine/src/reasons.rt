@@ -9,10 +9,10 @@ ghost use Rattle.refutation.specs.Clause.{item_at};
 ghost use Rattle.refutation.specs.Refutation.{IsAccepted};
 ghost use Rattle.rules.specs.Run.{IsGoodPlan};
 ghost use Rattle.universe_parts.specs.Parts.{HaveDistinctNames};
-ghost use Rattle.cli_engine.specs.Reasons.{AreReasons, HasWhere, TellsRefutation, TellsSolved, bad_line_words, fault_words, line_words, missing_words};
+ghost use Rattle.cli_engine.specs.Reasons.{AreReasons, IsToldWhere, TellsRefutation, TellsSolved, bad_line_words, fault_words, line_words, missing_words};
 ghost use Rattle.cli_engine.specs.Right.{IsRight};
 
-use crate::judged::sentences_on;
+use crate::judged::{sentences_on, told_in};
 use inputs::{Before, Requested};
 use phrases::push_versioned;
 use refutation::{Line, Refutation};
@@ -149,17 +149,19 @@ pub(crate) fn reasons_of_refutation(
     numbered: &NumberedLines,
     verdict: RefutationVerdict,
     tells_reasons: bool,
+    has_document: bool,
 ) -> Result<Option<Items<u8>>, AllocError>
     requires over { IsOver before.now requested.now.universe }
     requires verdict { IsVerdictOn requested.now.universe numbered.now verdict }
-    ensures { IfOk result (HasWhere tells_reasons (TellsRefutation requested.now.universe
+    ensures { IfOk result (IsToldWhere tells_reasons has_document
+        (TellsRefutation requested.now.universe
         (indices_of before.now.indices.now) numbered.now requested.now.asks_all_versions verdict)) }
 {
     if !tells_reasons {
         return Ok(None);
     }
-    let text = refutation_sentences_on(alloc, before, requested, numbered, verdict)?;
-    Ok(Some(Items::new(text)))
+    let text = refutation_sentences_on(alloc, before, requested, numbered, verdict);
+    told_in(text, has_document)
 }
 
 // The sentences on what a good plan changes.
@@ -214,16 +216,18 @@ pub(crate) fn reasons_of_solved<'a>(
     requested: &Requested<'_, 'a>,
     solved: &Solved,
     tells_reasons: bool,
+    has_document: bool,
 ) -> Result<Option<Items<u8>>, AllocError>
     requires over { IsOver before.now requested.now.universe }
     requires right { IsRight requested.now.universe (start_of before.now) solved.now }
-    ensures { IfOk result (HasWhere tells_reasons (TellsSolved requested.now.universe
+    ensures { IfOk result (IsToldWhere tells_reasons has_document
+        (TellsSolved requested.now.universe
         (indices_of before.now.indices.now) (start_of before.now)
         requested.now.asks_all_versions solved.now)) }
 {
     if !tells_reasons {
         return Ok(None);
     }
-    let text = solved_sentences(alloc, before, requested, solved)?;
-    Ok(Some(Items::new(text)))
+    let text = solved_sentences(alloc, before, requested, solved);
+    told_in(text, has_document)
 }

@@ -34,19 +34,19 @@ fn idle_in(
 }
 
 /// Tells which of the inputs change no answer, where that is wanted. Where the notes don't have it, it costs what `input_notes::idle_inputs`
-/// costs. Memory alone can fail.
+/// costs. Where memory is refused for it, it isn't told.
 pub fn tell_idle_inputs(
     alloc: Global,
     before: &Before<'_, '_, '_, '_, '_, '_, '_, '_>,
     notes: &mut Notes,
-) -> Result<(), AllocError>
+)
     ensures unasked { notes.old.wanted ≡ false → notes.new ≡ notes.old }
 {
     if !notes.wanted {
-        return Ok(());
+        return;
     }
-    let text = idle_in(alloc, before, notes)?;
-    notes.add(text.as_slice())
+    let text = idle_in(alloc, before, notes);
+    notes.add_told(text);
 }
 
 // The line of this number of a text, counted from 1, or nothing where there are fewer.
@@ -87,39 +87,33 @@ fn tell_providers(
     text: &[u8],
     fault: &Fault,
     notes: &mut Notes,
-) -> Result<(), AllocError>
+)
     ensures unasked { notes.old.wanted ≡ false → notes.new ≡ notes.old }
 {
     if !notes.wanted {
-        return Ok(());
+        return;
     }
-    match fault {
-        Fault::UnknownName(line) => {
-            let text = providers_of(alloc, indices, name_in(line_at(text, *line)))?;
-            notes.add(text.as_slice())
-        }
-        _ => Ok(()),
+    if let Fault::UnknownName(line) = fault {
+        let text = providers_of(alloc, indices, name_in(line_at(text, *line)));
+        notes.add_told(text);
     }
 }
 
 /// Tells, where the request with this text is refused and that is wanted, which of the inputs change no answer, and who provides the name
-/// that no package has, where it is refused for one. Costs what `input_notes::idle_inputs` and `input_notes::providers_of` cost. Memory alone can
-/// fail.
+/// that no package has, where it is refused for one. Costs what `input_notes::idle_inputs` and `input_notes::providers_of` cost. Where
+/// memory is refused for it, it isn't told.
 pub fn tell_refused(
     alloc: Global,
     before: &Before<'_, '_, '_, '_, '_, '_, '_, '_>,
     text: &[u8],
     answer: &Result<Requested<'_, '_>, Refusal>,
     notes: &mut Notes,
-) -> Result<(), AllocError>
+)
     ensures unasked { notes.old.wanted ≡ false → notes.new ≡ notes.old }
 {
-    match answer {
-        Err(refusal) => {
-            tell_idle_inputs(alloc, before, notes)?;
-            tell_providers(alloc, before.indices, text, &refusal.fault, notes)
-        }
-        Ok(_) => Ok(()),
+    if let Err(refusal) = answer {
+        tell_idle_inputs(alloc, before, notes);
+        tell_providers(alloc, before.indices, text, &refusal.fault, notes);
     }
 }
 
@@ -145,6 +139,6 @@ pub(crate) fn read_asked<'i, 'a, S: Shelf>(
 {
     let text = read_part(alloc, shelf, WholeText::Request, Input::Request)?;
     let answer = requested_in(alloc, before, None, text.as_slice());
-    tell_refused(alloc, before, text.as_slice(), &answer, notes)?;
+    tell_refused(alloc, before, text.as_slice(), &answer, notes);
     answer
 }

@@ -91,7 +91,7 @@ impl OverRequest for Solve {
             self.tells_reasons,
             self.has_document,
         )?;
-        tell_idle_inputs(alloc, before, notes)?;
+        tell_idle_inputs(alloc, before, notes);
         Ok(answer)
     }
 

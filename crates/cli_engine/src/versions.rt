@@ -35,7 +35,8 @@ fn lines_on(
 }
 
 /// Tells of each of the names, whose candidates these are, why it has none where it has none, and where that is asked for which versions
-/// there are, with their priorities; where sentences are wanted. Costs what `input_notes::versions_of` costs for each name. Memory alone can fail.
+/// there are, with their priorities; where sentences are wanted. Costs what `input_notes::versions_of` costs for each name. Where memory is refused
+/// for it, it isn't told.
 pub(crate) fn tell_candidates(
     alloc: Global,
     before: &Before<'_, '_, '_, '_, '_, '_, '_, '_>,
@@ -43,12 +44,12 @@ pub(crate) fn tell_candidates(
     candidates: &[Option<CandidateAnswer>],
     tells_versions: bool,
     notes: &mut Notes,
-) -> Result<(), AllocError>
+)
     ensures unasked { notes.old.wanted ≡ false → notes.new ≡ notes.old }
 {
     if !notes.wanted {
-        return Ok(());
+        return;
     }
-    let text = lines_on(alloc, before, names, candidates, tells_versions)?;
-    notes.add(text.as_slice())
+    let text = lines_on(alloc, before, names, candidates, tells_versions);
+    notes.add_told(text);
 }

@@ -6,7 +6,7 @@ use Rattle.std.proofs.lemmas.Bool.{cases_order}
 use Rattle.std.proofs.lemmas.List.{length-map, length-set}
 use Rattle.candidates.specs.Inputs.{indices_of}
 use Rattle.cli_engine.specs.Refuted.{AreRefuted}
-use Rattle.cli_engine.specs.Reasons.{HasWhere, TellsSolved}
+use Rattle.cli_engine.specs.Reasons.{IsToldWhere, TellsSolved}
 use Rattle.cli_engine.specs.Solution.{HasSolvedLines}
 use Rattle.inputs.specs.ReadAs.{AreReadAs, asking, start_of}
 use Rattle.inputs.specs.Reading.{out_of_memory}
@@ -328,7 +328,7 @@ pub is-kept : (before : Before) (texts : Texts) (limit : ℕ) (tells_reasons has
     → AreReadAs texts before → IsLeft texts limit kept.stays kept.request.items
     → IsSolvedRequest before limit kept.request.items kept.solved → back.answered.solved ≡ kept.solved.solved
     → back.answered.asks_all_versions ≡ kept.solved.requested.asks_all_versions → back.answered.naming ≡ None
-    → HasWhere tells_reasons (TellsSolved kept.solved.requested.universe (indices_of before.indices.now) (start_of before) back.answered.asks_all_versions back.answered.solved)
+    → IsToldWhere tells_reasons has_document (TellsSolved kept.solved.requested.universe (indices_of before.indices.now) (start_of before) back.answered.asks_all_versions back.answered.solved)
     back.answered.reasons
     → HasSolvedLines kept.solved.requested.universe has_document back.answered.solved back.answered.members
     → back.request ≡ kept.request.items → back.stays ≡ kept.stays → IsKeptBack texts limit tells_reasons has_document back

@@ -4,7 +4,7 @@ ghost use Rattle.std.specs.Prelude.{◌≡◌, ◌≢◌, IfErr, IfOk, None, Som
 ghost use Rattle.std.proofs.Common.{rules};
 ghost use mathlib.Core.Logic.{inl};
 ghost use Rattle.candidates.specs.Inputs.{indices_of};
-ghost use Rattle.cli_engine.specs.Reasons.{HasWhere, TellsSolved};
+ghost use Rattle.cli_engine.specs.Reasons.{IsToldWhere, TellsSolved};
 ghost use Rattle.cli_engine.specs.Right.{IsRight};
 ghost use Rattle.cli_engine.specs.Solution.{HasSolvedLines};
 ghost use Rattle.inputs.specs.Meaning.{DenotesAsked};
@@ -75,7 +75,7 @@ fn requested_telling<'i, 'a>(
     ensures unasked { notes.old.wanted ≡ false → notes.new ≡ notes.old }
 {
     let answer = requested_in(alloc, before, None, text);
-    tell_refused(alloc, before, text, &answer, notes)?;
+    tell_refused(alloc, before, text, &answer, notes);
     answer
 }
 
@@ -96,7 +96,7 @@ fn kept_back_of<'a>(
         (λ kept_back. kept_back.answered.asks_all_versions
         ≡ kept.entry.solved.requested.asks_all_versions) }
     ensures naming { IfOk result (λ kept_back. kept_back.answered.naming ≡ None) }
-    ensures reasons { IfOk result (λ kept_back. HasWhere tells_reasons
+    ensures reasons { IfOk result (λ kept_back. IsToldWhere tells_reasons has_document
         (TellsSolved kept.entry.solved.requested.universe
         (indices_of before.now.indices.now) (start_of before.now)
         kept_back.answered.asks_all_versions kept_back.answered.solved)
@@ -152,7 +152,7 @@ pub fn keep<S: Shelf>(
     let requested = requested_telling(alloc, before, text.as_slice(), notes)?;
     let kept = kept_of(alloc, shelf, before, requested, text, limit)?;
     let kept_back = kept_back_of(alloc, before, kept, tells_reasons, has_document)?;
-    tell_idle_inputs(alloc, before, notes)?;
+    tell_idle_inputs(alloc, before, notes);
     Ok(kept_back)
 }
 

@@ -60,6 +60,7 @@ fn judged(
         &SETTINGS,
         &CheckPlan {
             tells_reasons: false,
+            has_document: false,
         },
         &mut notes,
     )

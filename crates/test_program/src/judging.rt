@@ -131,6 +131,7 @@ fn judged<H: Host>(alloc: Global, host: &mut H) -> Result<JudgedPlan, Refusal> {
         &SETTINGS,
         &CheckPlan {
             tells_reasons: false,
+            has_document: false,
         },
         &mut notes,
     )

@@ -12,12 +12,6 @@ returns-in_err-said-clause-left g c at was f k =
     none_left at was _ _ (IsLeftOfPackages (texts_at at c.args.arguments.now) (survey_by c.args.survey.now) folder c.args.arguments.now.format at was)
     _ c.from_residual.ensures.0 (c.in_err-said.ensures.same ∙ f, c.in_err-said.ensures.keeps ∙ k)
 
-pub returns-in_err-tell_survey-clause-left : goal.returns-in_err-tell_survey-clause-left
-returns-in_err-tell_survey-clause-left g c at was f k =
-    let folder = option_map (λ (path : Bor (List ℕ)). path.now) c.args.folder in
-    none_left at was _ _ (IsLeftOfPackages (texts_at at c.args.arguments.now) (survey_by c.args.survey.now) folder c.args.arguments.now.format at was)
-    _ c.from_residual-in_err-tell_survey.ensures.0 (c.in_ok-said.ensures.same ∙ f, c.in_ok-said.ensures.keeps ∙ k)
-
 pub returns-clause-left : goal.returns-clause-left
 returns-clause-left g c at was f k =
     let said = c.in_ok-said in

@@ -4,7 +4,7 @@ use Rattle.inputs.specs.ReadAs.{start_of}
 use Rattle.plan_sentences.specs.No.{TellsVerdict}
 use Rattle.rules.specs.Verdict.{IsVerdict}
 use Rattle.rules.specs.declared.step.Step.{Step}
-use Rattle.cli_engine.specs.Reasons.{HasWhere}
+use Rattle.cli_engine.specs.Reasons.{IsToldWhere}
 use Rattle.cli_engine.proofs.check.judged_plan.Goals as goal
 
 pub returns-clause-exact : goal.returns-clause-exact
@@ -14,6 +14,6 @@ returns-clause-exact c =
 
 pub returns-clause-reasons : goal.returns-clause-reasons
 returns-clause-reasons c =
-    subst (λ (steps : List Step). HasWhere c.args.tells_reasons
+    subst (λ (steps : List Step). IsToldWhere c.args.tells_reasons c.args.has_document
     (TellsVerdict c.args.universe.now (start_of c.args.before.now) steps c.in_ok-verdict.verdict) c.in_ok-reasons.reasons)
     c.as_slice-2.ensures.value c.in_ok-reasons.ensures

@@ -3,7 +3,7 @@ use Rattle.std.proofs.Common.{subst, sym}
 use Rattle.candidates.specs.Inputs.{indices_of}
 use Rattle.named_lines.specs.Judged.{IsVerdictOn}
 use Rattle.named_lines.specs.declared.numbering.NumberedLines.{NumberedLines}
-use Rattle.cli_engine.specs.Reasons.{HasWhere, TellsRefutation}
+use Rattle.cli_engine.specs.Reasons.{IsToldWhere, TellsRefutation}
 use Rattle.cli_engine.specs.Solution.{HasLines}
 use Rattle.cli_engine.proofs.check_refutation.judged_refutation.Goals as goal
 
@@ -14,7 +14,7 @@ reasons_of_refutation-requires-clause-verdict c =
 
 pub returns-clause-reasons : goal.returns-clause-reasons
 returns-clause-reasons c =
-    subst (λ (numbered : NumberedLines). HasWhere c.args.tells_reasons (TellsRefutation c.args.requested.now.universe
+    subst (λ (numbered : NumberedLines). IsToldWhere c.args.tells_reasons c.args.has_document (TellsRefutation c.args.requested.now.universe
     (indices_of c.args.before.now.indices.now) numbered
     c.args.requested.now.asks_all_versions c.in_ok-verdict.field-0.verdict) c.in_ok-reasons.reasons)
     c.in_ok-verdict.ensures.lines c.in_ok-reasons.ensures

@@ -4,7 +4,7 @@ use Rattle.std.proofs.lemmas.Result.{err_from_is_err_and}
 use Rattle.rules.specs.declared.step.Step.{Step}
 use Rattle.inputs.specs.ReadAs.{start_of}
 use Rattle.inputs.specs.Texts.{texts_of}
-use Rattle.inputs.proofs.ReadByLemmas.{read_on, then_wanting}
+use Rattle.inputs.proofs.ReadByLemmas.{answered, read_on, then_wanting}
 use Rattle.cli_engine.specs.Answer.{plan_of}
 use Rattle.cli_engine.proofs.check.CheckPlanQuestion.answer.Goals as goal
 
@@ -18,6 +18,9 @@ returns-in_err-steps-clause-said g c = λ at known read.
 pub returns-in_err-judged-clause-read : goal.returns-in_err-judged-clause-read
 returns-in_err-judged-clause-read g c = then_wanting c.from_residual-in_err-judged.result
     (read_on g.met.S.Shelf.holds_on c.in_ok-universe.ensures.read c.in_ok-steps.ensures.read) c.from_residual-in_err-judged.ensures.1
+
+pub returns-clause-read : goal.returns-clause-read
+returns-clause-read g c = answered (read_on g.met.S.Shelf.holds_on c.in_ok-universe.ensures.read c.in_ok-steps.ensures.read)
 
 pub returns-clause-said : goal.returns-clause-said
 returns-clause-said g c = λ at known read.
