@@ -3,7 +3,7 @@
 second and so on, until a run meets no refusal; and once more so that all requests behind it are refused too. PROGRAM is
 debplan, linked dynamically. Each answer has to be `debplan: memory: E1 OutOfMemory` on standard error with status 5 and
 nothing on standard output, or exactly the one that the run has where nothing is refused; where it tells sentences, lines of
-them may be missing. Of `apply` the journal that is left
+them may be missing, but not that a goal was left out. Of `apply` the journal that is left
 shows steps of the plan from the first on, at least those that it had; there is no output, or the whole one; and a run that
 isn't refused then goes on to the same journal and output as one that never was. PART is a part of the name of a run, and
 without one all are made.
@@ -37,6 +37,9 @@ Applied = collections.namedtuple("Applied", "stood payloads start output")
 REFUSED = Ended(5, b"", b"debplan: memory: E1 OutOfMemory\n")
 JUDGES = {"plan": "check-plan", "refutation": "check-refutation"}
 HOW = ("once", "on")
+# How lines begin that tell what --keep-back leaves out, and what stands in the place of the reasons.
+LEFT_OUT = ("Kept back: ", "Goals that are left: ")
+UNTOLD = "  With it the request that is left can't be satisfied."
 SECONDS = 120
 
 
@@ -60,6 +63,7 @@ BROKEN = World("".join(stanza(f"{name} 1", status="installed") for name in "pq")
                stanza("p 2", "Breaks: q (<< 2)") + stanza("q 2"), "upgrade p\n")
 DERIVED = World("", stanza("a 1", "Depends: p | q") + stanza("p 1", "Depends: q", "Conflicts: q") + stanza("q 1", "Depends: p"),
                 "install a\n")
+UNMET = World("", stanza("a 1", "Depends: nobody"), "")
 FOREIGN = World(stanza("x 1", status="installed").replace("Architecture: all", "Architecture: i386"), "", "")
 
 NEEDED_PLAN = text("plan 1", "unpack bar 1.0", "unpack foo 1.0", "configure bar", "configure foo")
@@ -144,21 +148,26 @@ RUNS = [
     Run("solve --explain, a refutation", AGAINST, "solve", ["--explain"], None, "told"),
     Run("solve --format json, a plan", NEEDED, "solve", ["--format", "json"], None, "told"),
     Run("solve --format json, a refutation", AGAINST, "solve", ["--format", "json"], None, "told"),
-    Run("solve --keep-back", AGAINST, "solve", ["--keep-back", "--explain", "--format", "json"], None, "told"),
+    Run("solve --keep-back --explain", AGAINST, "solve", ["--keep-back", "--explain"], None, "told"),
+    Run("solve --keep-back --format json", AGAINST, "solve", ["--keep-back", "--format", "json"], None, "told"),
     Run("check-plan --explain, a no", NEEDED, "check-plan", ["--explain"], NO_STEP, "told"),
     Run("check-plan --explain, a yes", BROKEN, "check-plan", ["--explain", "--format", "json"], BROKEN_PLAN, "told"),
+    Run("check-refutation --format json", AGAINST, "check-refutation", ["--format", "json"], AGAINST_REFUTATION, "told"),
     Run("candidate --explain", NEEDED, "candidate", ["nobody", "--explain"], None, "told"),
+    Run("candidate --format json", NEEDED, "candidate", ["nobody", "--format", "json"], None, "told"),
+    Run("installable --explain", UNMET, "installable", ["--explain"], None, "told"),
+    Run("installable --format json", UNMET, "installable", ["--format", "json"], None, "told"),
     Run("wrong words", None, "solve", ["--limit"], None, "usage"),
 ]
 
 
 def told_in(ended):
-    """What a run answers without its sentences, and these, as lines."""
-    lines = ended.err.decode().splitlines()
-    if not ended.out.startswith(b"{"):
-        return ended.out, lines
-    document = json.loads(ended.out)
-    return document, [*lines, *document.pop("reasons", [])]
+    """What a run answers without its sentences, which lines on what was left out it tells, and its other lines."""
+    lines, answer = ended.err.decode().splitlines(), ended.out
+    if answer.startswith(b"{"):
+        answer = [json.loads(it) for it in answer.splitlines()]
+        lines += [line for document in answer for name in ("reasons", "kept_back") for line in document.pop(name, None) or []]
+    return answer, [it for it in lines if it.startswith(LEFT_OUT)], {it for it in lines if not it.startswith(LEFT_OUT)}
 
 
 # The runs, in a folder of their own
@@ -185,7 +194,7 @@ class Refusing:
         """The words of a command over the world; a judge has the text of an answer last."""
         if self.made.world is None:
             return [self.program, command, *rest]
-        files = ("status", "sources") if command == "candidate" else ("status", "sources", "request")
+        files = ("status", "sources") if command in ("candidate", "installable") else ("status", "sources", "request")
         options = [it for name in files for it in (f"--{name}", name)]
         return [self.program, command, "--arch", "amd64", *options, *rest, *(["answer"] if is_judging else [])]
 
@@ -264,8 +273,8 @@ class Refusing:
         """Whether it is its own answer, of which sentences are missing."""
         if self.made.wanted != "told" or ended.status != own.status:
             return False
-        (found, told), (wanted, all_told) = (told_in(it) for it in (ended, own))
-        return found == wanted and set(told) <= set(all_told)
+        (found, left_out, told), (wanted, all_left_out, all_told) = (told_in(it) for it in (ended, own))
+        return (found, left_out) == (wanted, all_left_out) and told <= {*all_told, UNTOLD}
 
     # All requests
 

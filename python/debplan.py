@@ -12,7 +12,8 @@
 Nothing is solved or judged here: each answer is the program's own, whose JSON (docs/FORMATS.md, section 19) is read into frozen
 dataclasses. A process of `debplan batch` reads the inputs at the first question and answers it and those behind it; what it can't
 answer, as `installable` of a whole archive, is a call of its own. What is proved of the program's answers is proved of the `text` of these, for the inputs
-as they were read; that this module reads the JSON as it should is tested. `reasons` are sentences, whose words aren't promised.
+as they were read; that this module reads the JSON as it should is tested. `reasons` are sentences, whose words aren't promised, and
+there are none where memory was refused for them.
 
 Names and versions are texts as Debian has them, sizes are bytes, and lines, steps and goals are counted from 1. What the program
 refuses is `Refused`, and where it is missing or gives no answer that is `Failed`; both are an `Error`. Needs Python 3.9, and the
@@ -483,7 +484,8 @@ def _lines_in(document: _Document) -> Tuple[Line, ...]:
 
 
 def _reasons_in(document: _Document) -> Tuple[str, ...]:
-    return tuple(document.get("reasons", ()))
+    # (null where memory was refused for them)
+    return tuple(document.get("reasons") or ())
 
 
 def _answer_of(request: str, document: _Document) -> Union[Plan, Refutation, Undecided]:

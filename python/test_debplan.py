@@ -560,6 +560,10 @@ class Calls(InRoom):
         assert isinstance(answer, debplan.Plan)
         self.assertEqual((answer.steps, answer.reasons), ((debplan.Remove("x"),), ()))
 
+    def test_reasons_for_which_memory_was_refused_are_none(self) -> None:
+        answer = '{"id":1,"answer":"undecided","why":"limit","text":"","reasons":null}'
+        self.assertEqual(self.over(program=self.script(f"echo '{answer}'")).solve("remove x").reasons, ())
+
     def test_packages_without_counts_have_failed(self) -> None:
         line = '{"answer":"undecided","name":"x","version":"1","text":"undecided x 1\\n"}'
         found: List[debplan.PackageAnswer] = []

@@ -385,7 +385,7 @@ def document_of(run):
         document = json.loads(run.stdout)
     except ValueError:
         raise Failure(f"{program()} ended with the status {run.returncode} in the middle of its answer") from None
-    document["reasons"] = without_unmatched(document["reasons"])
+    document["reasons"] = without_unmatched(document["reasons"] or [])
     return document
 
 

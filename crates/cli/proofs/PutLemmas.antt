@@ -1,5 +1,5 @@
 -- Files that are put, one after the other.
-use Rattle.std.proofs.Common.{◌≡◌, ◌∷◌, ◌++◌, [], ◌+◌, ◌<◌, ℕ, List, Option, None, Some, Result, Ok, Err, IfErr, IfOk, IsErr, IsOk, codes, drop, drop-cons, get_or, inl, inr, length, refl, suc, subst, sym, take, take-append-drop, ◌∙◌, ap}
+use Rattle.std.proofs.Common.{◌≡◌, ◌∷◌, ◌++◌, [], ◌<◌, ℕ, List, Option, None, Some, Result, Ok, Err, IfErr, IfOk, IsErr, IsOk, codes, drop, drop-cons, get_or, inr, length, refl, suc, subst, sym, take, take-append-drop, ◌∙◌, ap}
 use Rattle.cli.specs.Files.{Files, Puts}
 use Rattle.cli.specs.Kept.{Kept, NotesPut, Untouched}
 use Rattle.cli.specs.Leaving.{IsLeftWith}

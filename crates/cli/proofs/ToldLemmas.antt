@@ -1,5 +1,5 @@
 -- What is told of words, by what is printed later and by what was printed.
-use Rattle.std.proofs.Common.{◌≡◌, ◌⊎◌, [], Err, IfErr, IfOk, IsErr, List, Ok, Option, Result, Some, ap, codes, inl, inr, subst, sym, ℕ}
+use Rattle.std.proofs.Common.{◌≡◌, ◌⊎◌, [], Err, IfErr, IfOk, IsErr, Ok, Option, Result, Some, ap, codes, inl, inr, subst, sym, ℕ}
 use Rattle.cli.specs.Batch.{IsOutcomeOfBatch}
 use Rattle.cli.specs.Calls.{IsOutcomeOfAsked}
 use Rattle.cli.specs.Files.{Files}

@@ -27,7 +27,7 @@ use Rattle.outcomes.specs.Answer.{candidate_lines, refutation_line, solved_text,
 use Rattle.outcomes.specs.Exit.{exit_of_ended}
 use Rattle.outcomes.specs.Outcome.{IsOutcomeOfRefusal}
 use Rattle.refusal_lines.specs.Lines.{refusal_words}
-use Rattle.outcomes.specs.Survey.{survey_text, with_survey}
+use Rattle.outcomes.specs.Survey.{AreOfSurvey, survey_text}
 use Rattle.outcomes.specs.declared.exit.Exit.TheVariants as exit
 use Rattle.outcomes.specs.declared.outcome.Outcome.{Outcome}
 use Rattle.outcomes.specs.declared.outcome.Outcome.TheVariants as outcome
@@ -72,10 +72,6 @@ survey_of names all_versions without_essential limit = record {
   limit = limit;
 }
 
--- the members are those of the answers about packages
-abbrev pub AreOfSurvey : Surveyed → Members → Type 0
-AreOfSurvey surveyed all = all ≡ with_survey surveyed no_members
-
 -- the reply to each question is that of what is said by the texts with its request in the place of theirs, as where it is asked alone, and
 -- with the reasons of the answer and the lines of a refutation; but nothing is read a second time for it
 abbrev pub IsReplyTo : Texts → ℕ → Data → Asks → List ℕ → Type 0
@@ -86,7 +82,7 @@ IsReplyTo texts limit id (ask.keep_back request own) reply =
     IsReplyWhere {A = KeptBack} id (IsSaidOfKept (asking request texts) (unwrap_or own limit) true true) (λ kept. solved_text kept.answered)
     (AreOfKept no_archives) reply
 IsReplyTo texts limit id (ask.check_plan request plan) reply =
-    IsReplyWhere {A = JudgedPlan} id (IsSaid (asking request texts) (Some plan) true true) (λ judged. verdict_line judged.verdict)
+    IsReplyWhere {A = JudgedPlan} id (IsSaid (asking request texts) (Some plan) true) (λ judged. verdict_line judged.verdict)
     (AreOfPlan no_archives) reply
 IsReplyTo texts limit id (ask.check_refutation request refutation) reply =
     IsReplyWhere {A = JudgedRefutation} id (IsSaidOf (asking request texts) (Some refutation) true true) (λ judged. refutation_line judged.verdict)

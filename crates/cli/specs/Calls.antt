@@ -62,7 +62,7 @@ IsOutcomeOfRequest texts limit names_pairs written = IsPrintedOf {A = Answered} 
 -- the outcome is that of what is said of the plan by the texts
 abbrev pub IsOutcomeOfPlanJudged : Texts → Found → Format → Outcome → Type 0
 IsOutcomeOfPlanJudged texts plan written = IsPrintedOf {A = JudgedPlan} (λ said. IsSaidIn written (λ tells_reasons.
-    IsSaid texts plan tells_reasons (is_document written) said)) IsOutcomeOfPlan (AreOfPlan (archives_by texts)) written
+    IsSaid texts plan tells_reasons said)) IsOutcomeOfPlan (AreOfPlan (archives_by texts)) written
 
 -- the outcome is that of what is said of the refutation by the texts
 abbrev pub IsOutcomeOfLines : Texts → Found → Format → Outcome → Type 0

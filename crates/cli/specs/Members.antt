@@ -1,5 +1,5 @@
 -- What a document has of an answer beside its text (docs/FORMATS.md, "Answers as JSON"), as far as that is promised.
-use Rattle.std.specs.Prelude.{◌≡◌, ◌++◌, ℕ, Bool, List, [], ◌∷◌, Option, None, Some, Result, Ok, Err, codes, is_some, ⊤, if◌then◌else◌}
+use Rattle.std.specs.Prelude.{◌≡◌, ◌⊎◌, ◌++◌, ℕ, Bool, List, [], ◌∷◌, Option, None, Some, Result, Ok, Err, codes, is_some, ⊤, if◌then◌else◌}
 use Rattle.std.specs.List.{list_all}
 use Rattle.candidates.specs.Offer.{Offer}
 use Rattle.cli.specs.Again.{ArchiveOf}
@@ -11,13 +11,13 @@ use Rattle.command_line.specs.declared.call.Format.TheVariants as format
 use Rattle.json_answers.specs.Document.{text_data}
 use Rattle.json_answers.specs.Objects.{candidate_data, no_candidate_data, with_bad_line, with_text, with_verdict}
 use Rattle.json_answers.specs.Steps.{AreWithSteps}
-use Rattle.json_answers.specs.TextLines.{lines_data}
+use Rattle.json_answers.specs.TextLines.{lines_data, told_data}
 use Rattle.json_answers.specs.declared.members.Members.{Members as Made}
 use Rattle.inputs.specs.declared.refusal.Refusal.{Refusal}
 use Rattle.keep_back.specs.declared.keep_back.KeptBack.{KeptBack}
 use Rattle.refutecheck.specs.declared.verdict.Verdict.{Verdict}
 use Rattle.refutecheck.specs.declared.verdict.Verdict.TheVariants as verdict
-use Rattle.serde_json.specs.Data.{Data, Members, array, no_members, put}
+use Rattle.serde_json.specs.Data.{Data, Members, array, no_members, null, put}
 use Rattle.serde_json.specs.View.{items_of, members_view}
 use Rattle.solver.specs.declared.solved.Solved.{Solved}
 use Rattle.solver.specs.declared.solved.Solved.TheVariants as solved
@@ -26,18 +26,21 @@ use Rattle.solver.specs.declared.solved.Undecided.TheVariants as undecided
 
 -- Texts
 
--- the members with sentences, each a string
-abbrev pub with_reasons : List ℕ → Members → Members
-with_reasons sentences others = put (codes "reasons") (lines_data sentences) others
-
 -- what is told of an answer, if anything is
 abbrev pub reasons_in : Option (List ℕ) → List ℕ
 reasons_in None = []
 reasons_in (Some text) = text
 
--- the members with what is told of an answer, and hints behind it
-abbrev pub with_told : Option (List ℕ) → List ℕ → Members → Members
-with_told reasons hints others = with_reasons (reasons_in reasons ++ hints) others
+-- what is told of an answer, and hints behind it, if anything is told
+abbrev pub with_hints : Option (List ℕ) → List ℕ → Option (List ℕ)
+with_hints None hints = None
+with_hints (Some reasons) hints = Some (reasons ++ hints)
+
+-- the new members have what is told in addition, each sentence a string; they have null where nothing is, or where memory was refused for
+-- the strings
+abbrev pub AreTold : Option (List ℕ) → List ℕ → Members → Members → Type 0
+AreTold reasons hints old new =
+    (new ≡ put (codes "reasons") (told_data (with_hints reasons hints)) old) ⊎ (new ≡ put (codes "reasons") null old)
 
 -- the members that were made, if any were
 abbrev pub members_in : Option Made → Members
@@ -49,8 +52,10 @@ members_in (Some made) = members_view made.map.entries
 -- those of the verdict on a plan: what is told of it with some hints, its steps with these archives, and the verdict
 pub record AreOfPlan (archives : ArchiveOf) (judged : JudgedPlan) (all : Members) : Type 0 where
   pub hints : List ℕ
+  pub told : Members
   pub stepped : Members
-  pub steps : AreWithSteps archives judged.steps.items (with_told judged.reasons hints no_members) stepped
+  pub reasons : AreTold judged.reasons hints no_members told
+  pub steps : AreWithSteps archives judged.steps.items told stepped
   pub answer : all ≡ with_verdict judged.verdict stepped
 
 -- the number of the first bad line of a refutation, if it has one
@@ -61,7 +66,9 @@ bad_line_of (verdict.No number) = Some number
 -- those of the verdict on a refutation: its lines, what is told of it with some hints, and the verdict
 pub record AreOfRefutation (judged : JudgedRefutation) (all : Members) : Type 0 where
   pub hints : List ℕ
-  pub answer : all ≡ with_bad_line (bad_line_of judged.verdict) (with_told judged.reasons hints (members_in judged.members))
+  pub told : Members
+  pub reasons : AreTold judged.reasons hints (members_in judged.members) told
+  pub answer : all ≡ with_bad_line (bad_line_of judged.verdict) told
 
 -- why a request is undecided, in a word
 abbrev pub undecided_word : Undecided → List ℕ
@@ -87,8 +94,10 @@ AreStepped archives (solved.Undecided why) old new = new ≡ old
 -- with these archives, and how it is solved
 pub record AreOfAnswered (archives : ArchiveOf) (answered : Answered) (all : Members) : Type 0 where
   pub hints : List ℕ
+  pub told : Members
   pub stepped : Members
-  pub steps : AreStepped archives answered.solved (with_told answered.reasons hints (members_in answered.members)) stepped
+  pub reasons : AreTold answered.reasons hints (members_in answered.members) told
+  pub steps : AreStepped archives answered.solved told stepped
   pub answer : all ≡ with_solved answered.solved stepped
 
 -- the members with what is left of a request, and with the lines on what was left out

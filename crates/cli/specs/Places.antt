@@ -1,5 +1,5 @@
 -- Where the texts are that the options of a command line name.
-use Rattle.std.specs.Prelude.{◌++◌, List, [], ◌∷◌, Option, Some, codes, option_map, if◌then◌else◌}
+use Rattle.std.specs.Prelude.{◌++◌, List, [], ◌∷◌, Some, codes, option_map, if◌then◌else◌}
 use Rattle.std.specs.Option.{option_copied, option_to_list}
 use Rattle.std.specs.Str.{bytes_eq}
 use Rattle.cli.specs.Files.{Files}

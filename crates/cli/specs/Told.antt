@@ -1,5 +1,5 @@
 -- What is told of words: an outcome that is to be printed, or the exit status where all was printed as it came.
-use Rattle.std.specs.Prelude.{◌≡◌, ◌⊎◌, ℕ, List, Option, None, Some, Result, Ok, Err, ⊤}
+use Rattle.std.specs.Prelude.{◌≡◌, ◌⊎◌, ℕ, Option, None, Some, Result, Ok, Err, ⊤}
 use Rattle.cli.specs.Calls.{IsOutcomeOfAsked}
 use Rattle.cli.specs.Files.{Files}
 use Rattle.cli.specs.Kept.{Kept}

@@ -6,11 +6,11 @@ ghost use Rattle.cli.specs.Members as Spec;
 ghost use Rattle.cli.specs.Members.{AreMembersIn};
 ghost use Rattle.serde_json.specs.View.{members_view, view};
 
+use crate::members::put_told;
 use cli_engine::CandidateAnswer;
 use command_line::Format;
-use json_answers::{
-    Members, candidate_value, no_candidate_value, push_value, put_sentences, put_text,
-};
+use json_answers::{Members, candidate_value, no_candidate_value, push_value, put_text};
+use rules::Items;
 use serde_json::Value;
 use std::alloc::{AllocError, Global};
 
@@ -33,6 +33,11 @@ pub(crate) fn members_of_names(
     }
 }
 
+// Nothing but hints is told of candidates.
+fn no_reasons(alloc: Global) -> Option<Items<u8>> {
+    Some(Items::new(Vec::new(alloc)))
+}
+
 // Those of a document.
 fn names_members(
     alloc: Global,
@@ -44,7 +49,7 @@ fn names_members(
         (map (λ name. name.now) names.now) candidates.now (members_view members.map.entries)) }
 {
     let mut members = Members::new(alloc);
-    put_sentences(alloc, &mut members, sentences)?;
+    put_told(alloc, &mut members, &no_reasons(alloc), sentences)?;
     put_candidates(alloc, names, candidates, &mut members)?;
     Ok(members)
 }

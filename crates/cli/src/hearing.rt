@@ -142,6 +142,14 @@ fn answer_all<'i, 'a, T: Source, W: Write>(
     Ended::Unread
 }
 
+// The sentences on inputs that change no answer, of which there are none where memory is refused for them.
+fn idle_of(alloc: Global, before: &Before<'_, '_, '_, '_, '_, '_, '_, '_>) -> Vec<u8> {
+    match idle_text(alloc, before) {
+        Ok(text) => text,
+        Err(AllocError) => Vec::new(alloc),
+    }
+}
+
 impl<'o, T: Source + Drop, W: Write> Question for Questions<'o, T, W> {
     type Answer = Ended;
 
@@ -162,7 +170,7 @@ impl<'o, T: Source + Drop, W: Write> Question for Questions<'o, T, W> {
         talk: &mut Talk<'o, T, W>,
     ) -> Result<Ended, Refusal> {
         let listing = listed_in(alloc, before, false)?;
-        let idle = idle_text(alloc, before)?;
+        let idle = idle_of(alloc, before);
         Ok(answer_all(alloc, before, &listing, self.limit, idle.as_slice(), talk))
     }
 

@@ -6,7 +6,8 @@ ghost use Rattle.cli.specs.Members as Spec;
 ghost use Rattle.cli.specs.Members.{AreMembersIn, members_in, reasons_in};
 ghost use Rattle.inputs.specs.Texts.{Shelved, texts_of};
 ghost use Rattle.json_answers.specs.Steps.{AreWithSteps};
-ghost use Rattle.serde_json.specs.View.{members_view};
+ghost use Rattle.json_answers.specs.TextLines.{told_data};
+ghost use Rattle.serde_json.specs.View.{members_view, view};
 
 use crate::archives::archives_of;
 use cli_engine::{
@@ -15,9 +16,10 @@ use cli_engine::{
 use command_line::Format;
 use inputs::Shelf;
 use json_answers::{
-    Members, put_bad_line, put_sentences, put_steps, put_text, put_undecided, put_verdict,
+    Members, put_bad_line, put_steps, put_text, put_undecided, put_verdict, told_value,
 };
 use rules::{Items, Step};
+use serde_json::Value;
 use std::alloc::{AllocError, Global};
 
 /// What is told of an answer, which is empty where nothing is.
@@ -30,19 +32,51 @@ pub(crate) fn reasons_in(reasons: &Option<Items<u8>>) -> &[u8]
     }
 }
 
-// Puts what is told of an answer, and the hints behind it.
-fn put_told(
+// What is told of an answer, with the hints behind it, if anything is told. Memory alone can fail.
+fn with_hints(
+    alloc: Global,
+    reasons: &Option<Items<u8>>,
+    hints: &[u8],
+) -> Result<Option<Items<u8>>, AllocError>
+    ensures { IfOk result (λ told. told ≡ Spec.with_hints reasons.now hints.now) }
+{
+    match reasons {
+        Some(reasons) => {
+            let mut text = reasons.as_slice().to_vec(alloc)?;
+            text.extend_from_slice(hints)?;
+            Ok(Some(Items::new(text)))
+        }
+        None => Ok(None),
+    }
+}
+
+// The sentences of what is told of an answer and of the hints, as a value of a document. Memory alone can fail.
+fn reasons_value(
+    alloc: Global,
+    reasons: &Option<Items<u8>>,
+    hints: &[u8],
+) -> Result<Value, AllocError>
+    ensures { IfOk result
+        (λ value. view value ≡ told_data (Spec.with_hints reasons.now hints.now)) }
+{
+    let told = with_hints(alloc, reasons, hints)?;
+    told_value(alloc, &told)
+}
+
+/// Puts what is told of an answer, and the hints behind it, or null where memory is refused for the sentences. Memory alone can fail.
+pub(crate) fn put_told(
     alloc: Global,
     members: &mut Members,
     reasons: &Option<Items<u8>>,
     hints: &[u8],
 ) -> Result<(), AllocError>
-    ensures { OnOk result (members_view members.new.map.entries
-        ≡ Spec.with_told reasons.now hints.now (members_view members.old.map.entries)) }
+    ensures { OnOk result (Spec.AreTold reasons.now hints.now
+        (members_view members.old.map.entries) (members_view members.new.map.entries)) }
 {
-    let mut text = reasons_in(reasons).to_vec(alloc)?;
-    text.extend_from_slice(hints)?;
-    put_sentences(alloc, members, text.as_slice())
+    match reasons_value(alloc, reasons, hints) {
+        Ok(value) => members.put(alloc, "reasons", value),
+        Err(AllocError) => members.put(alloc, "reasons", Value::Null),
+    }
 }
 
 /// The members of the answer about a plan, where it is written as a document: the steps, with the fields of the stanzas that they

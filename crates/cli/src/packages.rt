@@ -17,7 +17,7 @@ use crate::told::tell_refusal;
 use cli_engine::Notes;
 use command_line::{Format, ShardNumber as ShardWords, Survey};
 use inputs::Refusal;
-use installable::{Installability, Installable, PackageAnswer, Shard, Surveyed};
+use installable::{Installability, Installable, PackageAnswer, Refuted, Shard, Surveyed};
 use outcomes::{Outcome, outcome_of_refusal, outcome_of_survey, outcome_of_surveyed};
 use std::alloc::{AllocError, Global};
 
@@ -82,10 +82,15 @@ fn tell_reasons(
     notes: &mut Notes,
 ) -> Result<(), AllocError> {
     match installability {
-        Installability::Broken(refuted) => {
+        Installability::Broken(
+            Refuted {
+                reasons: Some(reasons),
+                ..
+            },
+        ) => {
             notes.add(subject)?;
             notes.add(b":\n")?;
-            notes.add(refuted.reasons.as_slice())
+            notes.add(reasons.as_slice())
         }
         _ => Ok(()),
     }

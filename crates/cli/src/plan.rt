@@ -8,7 +8,7 @@ ghost use Rattle.inputs.specs.Texts.{Shelved, texts_of};
 ghost use Rattle.serde_json.specs.View.{members_view};
 
 use crate::arguments::Arguments;
-use crate::asking::{context_if, is_document, shown, tells_reasons, unless_refused, want};
+use crate::asking::{context_if, shown, tells_reasons, unless_refused, want};
 use crate::files::{HostShelf, Openings, ask_files};
 use crate::host::Host;
 use crate::members::{members_of_plan, reasons_in};
@@ -86,7 +86,6 @@ pub(crate) fn outcome_of_plan_judged<H: Host>(
     };
     let question = CheckPlan {
         tells_reasons: tells_reasons(explains, format),
-        has_document: is_document(format),
     };
     let answer = ask_files(alloc, &mut shelf, &settings, &question, notes);
     unless_refused(tell_refusal(alloc, &answer, &shelf, notes), notes);

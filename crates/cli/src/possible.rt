@@ -33,8 +33,8 @@ struct Left {
     printed: Outcome,
     /// Its text.
     request: Items<u8>,
-    /// What is told of what was left out.
-    notes: Items<u8>,
+    /// What is told of it, with what was left out.
+    told: Vec<u8>,
 }
 
 // Tells why what is left is undecided, where it is. Where memory was wanting no answer is told.
@@ -58,6 +58,7 @@ fn left_of<S: Shelf>(
     format: Format,
     kept: KeptBack,
     hints: &[u8],
+    told: Vec<u8>,
 ) -> Result<Left, AllocError>
     ensures printed { (at : Shelved) → S.known_texts shelf.old ≡ Some at
         → IfOk result (λ left.
@@ -84,13 +85,19 @@ fn left_of<S: Shelf>(
     Ok(Left {
         printed,
         request,
-        notes,
+        told,
     })
 }
 
-// Shows what is told of what was left out, behind what is shown of the answer.
-fn show_left(left_out: &[u8], notes: &mut Notes) -> Result<(), AllocError> {
-    notes.text.extend_from_slice(left_out)
+// What is shown of the answer, and behind it what was left out; where memory is refused for both, what was left out, which is said nowhere
+// else. Memory alone can fail.
+fn told_of_left(alloc: Global, shown: &[u8], left_out: &[u8]) -> Result<Vec<u8>, AllocError> {
+    let mut text = Vec::new(alloc);
+    let added = text.extend_from_slice(shown);
+    if added.is_ok() && text.extend_from_slice(left_out).is_ok() {
+        return Ok(text);
+    }
+    left_out.to_vec(alloc)
 }
 
 // What is printed of what is left, once its request was put.
@@ -104,7 +111,7 @@ fn outcome_of_request_put(
 {
     match put {
         Ok(()) => {
-            unless_refused(show_left(left.notes.as_slice(), notes), notes);
+            notes.text = left.told;
             Ok(left.printed)
         }
         Err(PutError::Unwritten) => outcome_of_unwritten_request(alloc),
@@ -147,7 +154,7 @@ fn outcome_of_left<H: Host>(
 {
     match output {
         None => {
-            unless_refused(show_left(left.notes.as_slice(), notes), notes);
+            notes.text = left.told;
             Ok(left.printed)
         }
         Some(path) => outcome_of_put(alloc, host, path, left, notes),
@@ -194,6 +201,7 @@ fn answer_of_possible<H: Host>(
         Ok(kept) => {
             let reasons = reasons_in(&kept.answered.reasons);
             let text = shown(alloc, explains, reasons, notes.text.as_slice());
+            let told = told_of_left(alloc, text.as_slice(), kept.notes.as_slice())?;
             let left = left_of(
                 alloc,
                 &mut shelf,
@@ -201,6 +209,7 @@ fn answer_of_possible<H: Host>(
                 format,
                 kept,
                 notes.text.as_slice(),
+                told,
             )?;
             notes.text = text;
             Ok(Ok(left))

@@ -19,6 +19,7 @@ ghost use Rattle.questions.specs.Asked.{asks_by};
 ghost use Rattle.serde_json.specs.Data.{null, put};
 ghost use Rattle.serde_json.specs.View.{members_view, view};
 
+use crate::asking::unless_refused;
 use crate::candidate_members::members_of_names;
 use crate::left_members::put_left;
 use crate::members::{members_of_answered, members_of_plan, members_of_refutation};
@@ -56,11 +57,14 @@ pub(crate) fn no_texts<'t>() -> MemoryShelf<'t, 't>
 
 // Notes that are wanted, since a document has them behind what is told of the answer; what is told of inputs that change no answer is known
 // before.
-fn wanted_notes(alloc: Global, idle: &[u8]) -> Result<Notes, AllocError> {
+fn wanted_notes(alloc: Global, idle: &[u8]) -> Notes {
     let mut notes = Notes::new(alloc);
     notes.wanted = true;
-    notes.idle = Some(idle.to_vec(alloc)?);
-    Ok(notes)
+    notes.idle = match idle.to_vec(alloc) {
+        Ok(idle) => Some(idle),
+        Err(AllocError) => None,
+    };
+    notes
 }
 
 // The answer over the request with this text.
@@ -241,10 +245,10 @@ fn reply_to_solve<'i, 'a>(
         tells_reasons: true,
         has_document: true,
     };
-    let mut notes = wanted_notes(alloc, idle)?;
+    let mut notes = wanted_notes(alloc, idle);
     match answer_over(alloc, &question, before, listing, request, &mut notes) {
         Ok(answered) => {
-            tell_undecided(&answered.solved, &mut notes)?;
+            unless_refused(tell_undecided(&answered.solved, &mut notes), &mut notes);
             reply_of_answered(alloc, before.settings, id, answered, notes.text.as_slice())
         }
         Err(refusal) => reply_of_refusal(alloc, id, &refusal),
@@ -265,13 +269,16 @@ fn reply_to_keep_back(
         (IsSaidOfKept (asking request.items texts) limit true true)
         (λ kept. Lines.solved_text kept.answered) (AreOfKept no_archives) reply.items) }
 {
-    let mut notes = wanted_notes(alloc, idle)?;
+    let mut notes = wanted_notes(alloc, idle);
     let mut shelf = no_texts();
     match keep(
         alloc, &mut shelf, before, request, limit, true, true, &mut notes,
     ) {
         Ok(kept) => {
-            tell_undecided(&kept.answered.solved, &mut notes)?;
+            unless_refused(
+                tell_undecided(&kept.answered.solved, &mut notes),
+                &mut notes,
+            );
             reply_of_kept(alloc, before.settings, id, kept, notes.text.as_slice())
         }
         Err(refusal) => reply_of_refusal(alloc, id, &refusal),
@@ -291,14 +298,14 @@ fn reply_to_plan<'i, 'a>(
     requires { IsListed before.now listing.now }
     ensures { (texts : Texts) → AreReadAs texts before.now
         → IfOk result (λ reply. IsReplyWhere (view id)
-        (IsSaid (asking request.now texts) (Some plan.now) true true)
+        (IsSaid (asking request.now texts) (Some plan.now) true)
         (λ judged. Lines.verdict_line judged.verdict) (AreOfPlan no_archives) reply.items) }
 {
     let question = GivenPlan { plan };
-    let mut notes = wanted_notes(alloc, idle)?;
+    let mut notes = wanted_notes(alloc, idle);
     match answer_over(alloc, &question, before, listing, request, &mut notes) {
         Ok(judged) => {
-            tell_unfinished(&judged, &mut notes)?;
+            unless_refused(tell_unfinished(&judged, &mut notes), &mut notes);
             reply_of_judged(alloc, before.settings, id, &judged, notes.text.as_slice())
         }
         Err(refusal) => reply_of_refusal(alloc, id, &refusal),
@@ -323,7 +330,7 @@ fn reply_to_refutation<'i, 'a>(
         AreOfRefutation reply.items) }
 {
     let question = GivenRefutation { refutation };
-    let mut notes = wanted_notes(alloc, idle)?;
+    let mut notes = wanted_notes(alloc, idle);
     match answer_over(alloc, &question, before, listing, request, &mut notes) {
         Ok(judged) => reply_of_lines(alloc, id, judged, notes.text.as_slice()),
         Err(refusal) => reply_of_refusal(alloc, id, &refusal),
@@ -366,7 +373,7 @@ fn reply_to_names(
         names,
         tells_versions: false,
     };
-    let mut notes = wanted_notes(alloc, idle)?;
+    let mut notes = wanted_notes(alloc, idle);
     let candidates = question.over(alloc, before, &mut notes)?;
     reply_of_names(
         alloc,

@@ -1,7 +1,7 @@
 //! The reply to a question which packages can be installed: a line of JSON.
 ghost use Rattle.std.specs.Prelude.{◌≡◌, IfOk, map, string_bytes};
 ghost use Rattle.std.specs.Option.{unwrap_or};
-ghost use Rattle.cli.specs.Batch.{AreOfSurvey, IsReplyOf, IsReplyWhere, survey_of};
+ghost use Rattle.cli.specs.Batch.{IsReplyOf, IsReplyWhere, survey_of};
 ghost use Rattle.cli.specs.Packages.{IsSaidOfSurvey};
 ghost use Rattle.command_line.specs.Asked.{survey_by};
 ghost use Rattle.inputs.specs.ReadAs.{AreReadAs};
@@ -22,7 +22,7 @@ use std::alloc::{AllocError, Global};
 fn reply_of_surveyed(alloc: Global, id: Value, surveyed: &Surveyed) -> Result<Vec<u8>, AllocError>
     ensures { IfOk result (λ reply.
         IsReplyOf (view id) (Lines.survey_text surveyed.now)
-        (AreOfSurvey surveyed.now) reply.items) }
+        (Lines.AreOfSurvey surveyed.now) reply.items) }
 {
     let text = survey_text(alloc, surveyed)?;
     let members = members_of_survey(alloc, surveyed)?;
@@ -58,7 +58,8 @@ fn reply_to_survey(
 ) -> Result<Vec<u8>, AllocError>
     ensures { (texts : Texts) → AreReadAs texts before.now
         → IfOk result (λ reply. IsReplyWhere (view id)
-        (IsSaidOfSurvey texts (survey_by survey.now)) Lines.survey_text AreOfSurvey reply.items) }
+        (IsSaidOfSurvey texts (survey_by survey.now))
+        Lines.survey_text Lines.AreOfSurvey reply.items) }
 {
     let question = question_of(survey, true);
     let mut shelf = no_texts();
@@ -85,7 +86,7 @@ pub(crate) fn reply_to_installable(
         (IsSaidOfSurvey texts
         (survey_of (map string_bytes names.now) all_versions without_essential
         (unwrap_or own_limit limit)))
-        Lines.survey_text AreOfSurvey reply.items) }
+        Lines.survey_text Lines.AreOfSurvey reply.items) }
 {
     let words = words_of(alloc, names)?;
     let limit = own_limit.unwrap_or(limit);

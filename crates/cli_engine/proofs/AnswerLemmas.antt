@@ -55,7 +55,7 @@ wanting texts plan u start steps refused is (inl first) = meaning_is_not_refused
 wanting texts plan u start steps refused is (inr fails) = absurd (not-both steps refused.fault (plan_of plan) is.read fails.fault)
 
 pub good_plan_is_answered : GoodPlanIsAnswered
-good_plan_is_answered texts plan u start steps tells_reasons has_document (Ok judged) is good said =
+good_plan_is_answered texts plan u start steps tells_reasons (Ok judged) is good said =
     let answer = said.answer in
     inl (
       judged,
@@ -64,5 +64,5 @@ good_plan_is_answered texts plan u start steps tells_reasons has_document (Ok ju
           (moved texts plan answer.universe u answer.start start answer.steps steps judged.verdict (read_by texts plan judged.verdict answer) is answer.holds)
           good,
     )
-good_plan_is_answered texts plan u start steps tells_reasons has_document (Err refused) is good first =
+good_plan_is_answered texts plan u start steps tells_reasons (Err refused) is good first =
     inr (ap Err (wanting texts plan u start steps refused is first))

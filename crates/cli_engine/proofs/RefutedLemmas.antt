@@ -5,7 +5,6 @@ use Rattle.plain.specs.Counted.{IsCounted}
 use Rattle.refutation.specs.Laws.{HasAscendingPairs, HasNeededPairs}
 use Rattle.rules.specs.Database.{Record}
 use Rattle.rules.specs.Universe.{Universe}
-use Rattle.refutecheck.specs.declared.verdict.Verdict.{Verdict}
 use Rattle.refutecheck.specs.declared.verdict.Verdict.TheVariants as verdict
 use Rattle.inputs.specs.Meaning.{Denotes, asked_of}
 use Rattle.inputs.specs.Reading.{out_of_memory}
@@ -17,7 +16,7 @@ use Rattle.plain.proofs.MemberLemmas.{universe_is_counted}
 use Rattle.refutation.proofs.NeededLemmas.{universe_has_needed_pairs}
 use Rattle.refutation.proofs.PremiseLemmas.{none_is_acceptable}
 use Rattle.written_refutation.proofs.VerdictLemmas.{has_one_verdict}
-use Rattle.written_refutation.specs.Judged.{IsWrittenAccepted, IsWrittenVerdict, lines_of}
+use Rattle.written_refutation.specs.Judged.{IsWrittenVerdict, lines_of}
 use Rattle.written_refutation.specs.declared.written.WrittenRefutation.{WrittenRefutation}
 use Rattle.cli_engine.specs.Refuted.{AcceptedRefutationIsAnswered, IsFirstRefutationRefusal, RefutationHasOneAnswer, YesRefutes, refutation_of}
 use Rattle.cli_engine.specs.Solution.{MeaningIsAnswered}

@@ -39,16 +39,16 @@ pub record IsPromised (texts : Texts) (plan : Found) : Type 0 where
 abbrev pub YesKeepsPromise : Type 0
 YesKeepsPromise = (texts : Texts) (plan : Found) → IsAnswer texts plan verdict.Yes → IsPromised texts plan
 
--- the verdict is true of the plan, the steps are those that it is read as, and where reasons are wanted they tell the verdict
-pub record IsJudged (texts : Texts) (plan : Found) (tells_reasons has_document : Bool) (judged : JudgedPlan) : Type 0 where
+-- the verdict is true of the plan, the steps are those that it is read as, and the reasons that are told, if they are wanted, tell the verdict
+pub record IsJudged (texts : Texts) (plan : Found) (tells_reasons : Bool) (judged : JudgedPlan) : Type 0 where
   pub answer : IsAnswer texts plan judged.verdict
   pub read : plan_of plan ≡ Ok judged.steps.items
-  pub reasons : IsToldWhere tells_reasons has_document (TellsVerdict answer.universe answer.start answer.steps judged.verdict) judged.reasons
+  pub reasons : IsToldWhere tells_reasons (TellsVerdict answer.universe answer.start answer.steps judged.verdict) judged.reasons
 
--- what is said of a plan: its answer, with the reasons where they are wanted, or the first refusal
-abbrev pub IsSaid : Texts → Found → Bool → Bool → Result JudgedPlan Refusal → Type 0
-IsSaid texts plan tells_reasons has_document (Ok judged) = IsJudged texts plan tells_reasons has_document judged
-IsSaid texts plan tells_reasons has_document (Err refused) = IsFirstRefusal texts plan refused
+-- what is said of a plan: its answer, with the reasons that are told, or the first refusal
+abbrev pub IsSaid : Texts → Found → Bool → Result JudgedPlan Refusal → Type 0
+IsSaid texts plan tells_reasons (Ok judged) = IsJudged texts plan tells_reasons judged
+IsSaid texts plan tells_reasons (Err refused) = IsFirstRefusal texts plan refused
 
 -- yes is said of a plan
 abbrev pub IsYes : Result JudgedPlan Refusal → Type 0
@@ -56,6 +56,6 @@ IsYes said = (judged : JudgedPlan) × (said ≡ Ok judged) × (judged.verdict �
 
 -- of a plan that is read and good, over what the texts denote, yes is said, or that memory was wanting
 abbrev pub GoodPlanIsAnswered : Type 0
-GoodPlanIsAnswered = (texts : Texts) (plan : Found) (u : Universe) (start : List Record) (steps : List Step) (tells_reasons has_document : Bool)
+GoodPlanIsAnswered = (texts : Texts) (plan : Found) (u : Universe) (start : List Record) (steps : List Step) (tells_reasons : Bool)
     (said : Result JudgedPlan Refusal) → IsReadAs texts plan u start steps → IsGoodPlan u start steps
-    → IsSaid texts plan tells_reasons has_document said → IsYes said ⊎ (said ≡ Err out_of_memory)
+    → IsSaid texts plan tells_reasons said → IsYes said ⊎ (said ≡ Err out_of_memory)

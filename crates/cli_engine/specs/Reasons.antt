@@ -1,5 +1,5 @@
 -- What is told of an answer, for a person to read (this project's own form; docs/FORMATS.md, "Sentences").
-use Rattle.std.specs.Prelude.{◌≡◌, ◌++◌, ◌&&◌, ℕ, Bool, true, false, List, [], MatchOption, Option, Some, None, Result, Ok, Err, codes, decimal}
+use Rattle.std.specs.Prelude.{◌≡◌, ◌++◌, ℕ, Bool, true, false, List, [], MatchOption, Option, Some, None, Result, Ok, Err, codes, decimal, ⊤}
 use Rattle.candidates.specs.Inputs.{indices_of}
 use Rattle.index.specs.Index.{ReadIndex}
 use Rattle.named_lines.specs.declared.numbering.Missing.{Missing}
@@ -16,7 +16,6 @@ use Rattle.refutecheck.specs.declared.verdict.Verdict.TheVariants as refuted
 use Rattle.rules.specs.Available.{Index}
 use Rattle.rules.specs.Database.{Record}
 use Rattle.rules.specs.Universe.{Universe}
-use Rattle.rules.specs.declared.step.Step.{Step}
 use Rattle.solver.specs.declared.solved.Solved.{Solved}
 use Rattle.solver.specs.declared.solved.Solved.TheVariants as solved
 use Rattle.trim.specs.Needed.{ArePremisesOf}
@@ -25,14 +24,14 @@ use Rattle.trim.specs.Needed.{ArePremisesOf}
 abbrev pub HasWhere : {A : Type 0} → Bool → (A → Type 0) → Option A → Type 0
 HasWhere wanted Holds made = MatchOption made (wanted ≡ false) (λ value. (wanted ≡ true) × Holds value)
 
--- it is told where it is wanted, so that the fact holds of it; memory may have been refused for it, but not where it is needed
-abbrev pub IsToldWhere : Bool → Bool → (List ℕ → Type 0) → Option (List ℕ) → Type 0
-IsToldWhere wanted needed Holds told = MatchOption told ((wanted && needed) ≡ false) (λ text. (wanted ≡ true) × Holds text)
+-- what is told was wanted, and the fact holds of it; where memory was refused for it nothing is told
+abbrev pub IsToldWhere : Bool → (List ℕ → Type 0) → Option (List ℕ) → Type 0
+IsToldWhere wanted Holds told = MatchOption told ⊤ (λ text. (wanted ≡ true) × Holds text)
 
--- it is this text where there is one; where memory was refused for it there is none, but not in a document
-abbrev pub IsToldIn : {V E : Type 0} → (V → List ℕ) → Bool → Result V E → Option (List ℕ) → Type 0
-IsToldIn items has_document (Ok text) told = told ≡ Some (items text)
-IsToldIn items has_document (Err wanting) told = (has_document ≡ false) × (told ≡ None)
+-- the text, where there is one, and nothing where memory was refused for it
+abbrev pub told_if : {V E : Type 0} → (V → List ℕ) → Result V E → Option (List ℕ)
+told_if items (Ok text) = Some (items text)
+told_if items (Err wanting) = None
 
 -- Of a refutation
 

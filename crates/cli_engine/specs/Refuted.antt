@@ -64,8 +64,8 @@ abbrev pub RefutationHasOneAnswer : Type 0
 RefutationHasOneAnswer = (texts : Texts) (refutation : Found) (first second : Verdict)
     → IsRefutationAnswer texts refutation first → IsRefutationAnswer texts refutation second → first ≡ second
 
--- the verdict is true of the refutation, where it is yes no set of admitted pairs is acceptable, where reasons are wanted they tell the
--- verdict, and where there is a document it has the lines by numbers
+-- the verdict is true of the refutation, where it is yes no set of admitted pairs is acceptable, the reasons that are told, if they are
+-- wanted, tell the verdict, and where there is a document it has the lines by numbers
 pub record IsJudgedRefutation (texts : Texts) (refutation : Found) (tells_reasons has_document : Bool) (judged : JudgedRefutation) : Type 0 where
   pub answer : IsRefutationAnswer texts refutation judged.verdict
   pub refuted : judged.verdict ≡ verdict.Yes → AreRefuted texts
@@ -73,10 +73,10 @@ pub record IsJudgedRefutation (texts : Texts) (refutation : Found) (tells_reason
   pub asked : DenotesAsked texts answer.universe answer.start all_versions
   pub indices : List Index
   pub indexed : HasIndices texts indices
-  pub reasons : IsToldWhere tells_reasons has_document (TellsRefutation answer.universe indices (lines_of answer.universe.pairs answer.written) all_versions judged.verdict) judged.reasons
+  pub reasons : IsToldWhere tells_reasons (TellsRefutation answer.universe indices (lines_of answer.universe.pairs answer.written) all_versions judged.verdict) judged.reasons
   pub lines : HasLines answer.universe has_document (lines_of answer.universe.pairs answer.written).lines judged.members
 
--- what is said of a refutation: its answer, with the reasons where they are wanted and the lines where there is a document, or the first
+-- what is said of a refutation: its answer, with the reasons that are told and the lines where there is a document, or the first
 -- refusal
 abbrev pub IsSaidOf : Texts → Found → Bool → Bool → Result JudgedRefutation Refusal → Type 0
 IsSaidOf texts refutation tells_reasons has_document (Ok judged) = IsJudgedRefutation texts refutation tells_reasons has_document judged

@@ -41,8 +41,8 @@ HasSolvedLines u has_document (solved.Plan steps) made = made ≡ None
 HasSolvedLines u has_document (solved.Undecided why) made = made ≡ None
 
 -- the answer is true of the universe and the start that the texts denote, by this limit of the search, says whether the request asks
--- for all versions, has the text of a refutation with its pairs named where that is asked for, reasons that tell it where they are
--- wanted, and the lines of a refutation where there is a document
+-- for all versions, has the text of a refutation with its pairs named where that is asked for, reasons that tell it, if they are wanted
+-- and told, and the lines of a refutation where there is a document
 pub record IsSolution (texts : Texts) (limit : ℕ) (names_pairs tells_reasons has_document : Bool) (answered : Answered) : Type 0 where
   pub universe : Universe
   pub start : List Record
@@ -51,7 +51,7 @@ pub record IsSolution (texts : Texts) (limit : ℕ) (names_pairs tells_reasons h
   pub naming : answered.naming ≡ naming_for names_pairs universe.pairs answered.solved
   pub indices : List Index
   pub indexed : HasIndices texts indices
-  pub reasons : IsToldWhere tells_reasons has_document (TellsSolved universe indices start answered.asks_all_versions answered.solved) answered.reasons
+  pub reasons : IsToldWhere tells_reasons (TellsSolved universe indices start answered.asks_all_versions answered.solved) answered.reasons
   pub lines : HasSolvedLines universe has_document answered.solved answered.members
 
 -- what texts denote can be solved

@@ -27,7 +27,7 @@ pub struct JudgedPlan {
     pub verdict: Verdict,
     /// The steps that the plan is read as.
     pub steps: Vec<Step>,
-    /// What is told of the verdict, each sentence a line of its own, where that is wanted.
+    /// What is told of the verdict, each sentence a line of its own, where that is wanted and memory wasn't refused for it.
     pub reasons: Option<Items<u8>>,
 }
 
@@ -38,8 +38,6 @@ pub struct JudgedPlan {
 pub struct CheckPlan {
     /// Whether it is told what stands against the plan, or what it changes.
     pub tells_reasons: bool,
-    /// Whether there is to be a document of the answer, which has what is told.
-    pub has_document: bool,
 }
 
 /// Judges the steps from this status file on.
@@ -68,14 +66,13 @@ pub(crate) fn judged_plan<'a>(
     universe: &Universe<'_, 'a>,
     steps: Vec<Step>,
     tells_reasons: bool,
-    has_document: bool,
     notes: &mut Notes,
 ) -> Result<JudgedPlan, AllocError>
     requires { IsBuiltOn (start_of before.now) universe.now }
     ensures steps { IfOk result (λ judged. judged.steps.items ≡ steps.items) }
     ensures exact { IfOk result
         (λ judged. IsVerdict universe.now (start_of before.now) steps.items judged.verdict) }
-    ensures reasons { IfOk result (λ judged. IsToldWhere tells_reasons has_document
+    ensures reasons { IfOk result (λ judged. IsToldWhere tells_reasons
         (TellsVerdict universe.now (start_of before.now) steps.items judged.verdict)
         judged.reasons) }
     ensures unasked { notes.old.wanted ≡ false → notes.new ≡ notes.old }
@@ -88,8 +85,7 @@ pub(crate) fn judged_plan<'a>(
         steps.as_slice(),
         &verdict,
         tells_reasons,
-        has_document,
-    )?;
+    );
     tell_idle_inputs(alloc, before, notes);
     Ok(JudgedPlan {
         verdict,
@@ -103,7 +99,7 @@ impl Question for CheckPlan {
 
     type Beside = Notes;
 
-    ghost says = { λ it texts judged _ result _. IsSaid texts judged it.tells_reasons it.has_document result };
+    ghost says = { λ it texts judged _ result _. IsSaid texts judged it.tells_reasons result };
 
     ghost keeps = { λ _ _ old _ new. old.wanted ≡ false → new ≡ old };
 
@@ -116,15 +112,7 @@ impl Question for CheckPlan {
     ) -> Result<JudgedPlan, Refusal> {
         let Requested { universe, .. } = read_asked(alloc, shelf, before, notes)?;
         let steps = read_steps(alloc, shelf)?;
-        let judged = judged_plan(
-            alloc,
-            before,
-            &universe,
-            steps,
-            self.tells_reasons,
-            self.has_document,
-            notes,
-        )?;
+        let judged = judged_plan(alloc, before, &universe, steps, self.tells_reasons, notes)?;
         Ok(judged)
     }
 

@@ -35,7 +35,7 @@ use written_refutation::{JudgedLines, WrittenRefutation, check_written, read_wri
 pub struct JudgedRefutation {
     /// The verdict.
     pub verdict: Verdict,
-    /// What is told of the verdict, each sentence a line of its own, where that is wanted.
+    /// What is told of the verdict, each sentence a line of its own, where that is wanted and memory wasn't refused for it.
     pub reasons: Option<Items<u8>>,
     /// What a document has of the lines of the refutation, where there is to be one.
     pub members: Option<Members>,
@@ -110,7 +110,7 @@ pub(crate) fn judged_refutation(
     requires { IsOver before.now requested.now.universe }
     ensures exact { IfOk result
         (λ judged. IsWrittenVerdict requested.now.universe written judged.verdict) }
-    ensures reasons { IfOk result (λ judged. IsToldWhere tells_reasons has_document
+    ensures reasons { IfOk result (λ judged. IsToldWhere tells_reasons
         (TellsRefutation requested.now.universe (indices_of before.now.indices.now)
         (lines_of requested.now.universe.pairs written)
         requested.now.asks_all_versions judged.verdict) judged.reasons) }
@@ -128,8 +128,7 @@ pub(crate) fn judged_refutation(
         &numbered,
         verdict,
         tells_reasons,
-        has_document,
-    )?;
+    );
     tell_idle_inputs(alloc, before, notes);
     Ok(JudgedRefutation {
         verdict,

@@ -32,7 +32,7 @@ impl<'t> OverRequest for GivenPlan<'t> {
 
     type Beside = Notes;
 
-    ghost says = { λ it texts _ result _. IsSaid texts (Some it.plan.now) true true result };
+    ghost says = { λ it texts _ result _. IsSaid texts (Some it.plan.now) true result };
 
     ghost keeps = { λ _ old _ new. old.wanted ≡ false → new ≡ old };
 
@@ -44,7 +44,7 @@ impl<'t> OverRequest for GivenPlan<'t> {
         notes: &mut Notes,
     ) -> Result<JudgedPlan, Refusal> {
         let steps = steps_of(alloc, self.plan)?;
-        let judged = judged_plan(alloc, before, &requested.universe, steps, true, true, notes)?;
+        let judged = judged_plan(alloc, before, &requested.universe, steps, true, notes)?;
         Ok(judged)
     }
 

@@ -1,9 +1,9 @@
 //! What is told of the verdict on a plan, where that is wanted.
-ghost use Rattle.std.specs.Prelude.{IfOk};
+ghost use Rattle.std.specs.Prelude.{◌≡◌, IfOk};
 ghost use Rattle.plan_sentences.specs.No.{TellsVerdict};
 ghost use Rattle.rules.specs.Verdict.{IsBuiltOn, IsVerdict};
 ghost use Rattle.status_text.specs.Slot.{slot_records};
-ghost use Rattle.cli_engine.specs.Reasons.{IsToldIn, IsToldWhere};
+ghost use Rattle.cli_engine.specs.Reasons.{IsToldWhere, told_if};
 
 use plan_sentences::verdict_sentences;
 use plancheck_state::{parse_packages, view};
@@ -34,27 +34,18 @@ pub(crate) fn sentences_on<'a>(
     Ok(text)
 }
 
-/// What is told, where memory isn't refused for it. A document has what is told, and so memory that is refused for that is refused for
-/// the document.
-pub(crate) fn told_in(
-    text: Result<Vec<u8>, AllocError>,
-    has_document: bool,
-) -> Result<Option<Items<u8>>, AllocError>
-    ensures { IfOk result (IsToldIn (λ text. text.items) has_document text) }
+/// What is told, where memory isn't refused for it.
+pub(crate) fn told_of(text: Result<Vec<u8>, AllocError>) -> Option<Items<u8>>
+    ensures { result ≡ told_if (λ text. text.items) text }
 {
     match text {
-        Ok(text) => Ok(Some(Items::new(text))),
-        Err(AllocError) => {
-            if has_document {
-                return Err(AllocError);
-            }
-            Ok(None)
-        }
+        Ok(text) => Some(Items::new(text)),
+        Err(AllocError) => None,
     }
 }
 
-/// What stands against the plan, if its verdict is a no, and what it changes, if it is yes, where that is wanted. It costs what
-/// `sentences_on` costs. Memory alone can fail.
+/// What stands against the plan, if its verdict is a no, and what it changes, if it is yes, where that is wanted and
+/// memory isn't refused for it. It costs what `sentences_on` costs.
 pub(crate) fn reasons_of_plan<'a>(
     alloc: Global,
     status_file: &StatusFile<'a>,
@@ -62,17 +53,17 @@ pub(crate) fn reasons_of_plan<'a>(
     steps: &[Step],
     verdict: &Verdict,
     tells_reasons: bool,
-    has_document: bool,
-) -> Result<Option<Items<u8>>, AllocError>
+) -> Option<Items<u8>>
     requires built { IsBuiltOn (slot_records status_file.now.slots) universe.now }
     requires verdict { IsVerdict universe.now
         (slot_records status_file.now.slots) steps.now verdict.now }
-    ensures { IfOk result (IsToldWhere tells_reasons has_document
-        (TellsVerdict universe.now (slot_records status_file.now.slots) steps.now verdict.now)) }
+    ensures { IsToldWhere tells_reasons
+        (TellsVerdict universe.now (slot_records status_file.now.slots) steps.now verdict.now)
+        result }
 {
     if !tells_reasons {
-        return Ok(None);
+        return None;
     }
     let text = sentences_on(alloc, status_file, universe, steps, verdict);
-    told_in(text, has_document)
+    told_of(text)
 }

@@ -76,7 +76,7 @@ fn solved_members(
 }
 
 /// What is answered where the request is solved so, with the text of a refutation whose pairs are named, where that is asked for, what is
-/// told of the answer, where that is wanted, and what a document has of the lines of a refutation, where there is to be one. Memory alone
+/// told of the answer, where that is wanted and memory isn't refused for it, and what a document has of the lines of a refutation, where there is to be one. Memory alone
 /// can fail.
 pub fn answer_of_solved<'a>(
     alloc: Global,
@@ -95,7 +95,7 @@ pub fn answer_of_solved<'a>(
     ensures naming { IfOk result
         (λ answered. answered.naming ≡ naming_for names_pairs requested.now.universe.pairs solved) }
     ensures reasons { IfOk result
-        (λ answered. IsToldWhere tells_reasons has_document
+        (λ answered. IsToldWhere tells_reasons
         (TellsSolved requested.now.universe
         (indices_of before.now.indices.now) (start_of before.now)
         answered.asks_all_versions answered.solved) answered.reasons) }
@@ -104,14 +104,7 @@ pub fn answer_of_solved<'a>(
 {
     let universe = &requested.universe;
     let naming = naming_of(alloc, universe, &solved, names_pairs)?;
-    let reasons = reasons_of_solved(
-        alloc,
-        before,
-        requested,
-        &solved,
-        tells_reasons,
-        has_document,
-    )?;
+    let reasons = reasons_of_solved(alloc, before, requested, &solved, tells_reasons);
     let members = solved_members(alloc, universe, &solved, has_document)?;
     Ok(Answered {
         solved,

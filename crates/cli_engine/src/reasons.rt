@@ -12,7 +12,7 @@ ghost use Rattle.universe_parts.specs.Parts.{HaveDistinctNames};
 ghost use Rattle.cli_engine.specs.Reasons.{AreReasons, IsToldWhere, TellsRefutation, TellsSolved, bad_line_words, fault_words, line_words, missing_words};
 ghost use Rattle.cli_engine.specs.Right.{IsRight};
 
-use crate::judged::{sentences_on, told_in};
+use crate::judged::{sentences_on, told_of};
 use inputs::{Before, Requested};
 use phrases::push_versioned;
 use refutation::{Line, Refutation};
@@ -140,8 +140,8 @@ fn refutation_sentences_on(
     }
 }
 
-/// What is told of a refutation with this verdict, where that is wanted: its reasons, if it is accepted, and else which pair it names that
-/// isn't admitted, or what is wrong with its first bad line. Memory alone can fail.
+/// What is told of a refutation with this verdict, where that is wanted and memory isn't refused for it: its reasons, if it is accepted,
+/// and else which pair it names that isn't admitted, or what is wrong with its first bad line.
 pub(crate) fn reasons_of_refutation(
     alloc: Global,
     before: &Before<'_, '_, '_, '_, '_, '_, '_, '_>,
@@ -149,19 +149,19 @@ pub(crate) fn reasons_of_refutation(
     numbered: &NumberedLines,
     verdict: RefutationVerdict,
     tells_reasons: bool,
-    has_document: bool,
-) -> Result<Option<Items<u8>>, AllocError>
+) -> Option<Items<u8>>
     requires over { IsOver before.now requested.now.universe }
     requires verdict { IsVerdictOn requested.now.universe numbered.now verdict }
-    ensures { IfOk result (IsToldWhere tells_reasons has_document
+    ensures { IsToldWhere tells_reasons
         (TellsRefutation requested.now.universe
-        (indices_of before.now.indices.now) numbered.now requested.now.asks_all_versions verdict)) }
+        (indices_of before.now.indices.now) numbered.now requested.now.asks_all_versions verdict)
+        result }
 {
     if !tells_reasons {
-        return Ok(None);
+        return None;
     }
     let text = refutation_sentences_on(alloc, before, requested, numbered, verdict);
-    told_in(text, has_document)
+    told_of(text)
 }
 
 // The sentences on what a good plan changes.
@@ -208,26 +208,25 @@ fn solved_sentences<'a>(
     }
 }
 
-/// What is told of an answer to a request, where that is wanted: the reasons of a refutation, and what a plan changes. Memory alone can
-/// fail.
+/// What is told of an answer to a request, where that is wanted and memory isn't refused for it: the reasons of a refutation, and what a
+/// plan changes.
 pub(crate) fn reasons_of_solved<'a>(
     alloc: Global,
     before: &Before<'_, '_, '_, '_, '_, '_, '_, 'a>,
     requested: &Requested<'_, 'a>,
     solved: &Solved,
     tells_reasons: bool,
-    has_document: bool,
-) -> Result<Option<Items<u8>>, AllocError>
+) -> Option<Items<u8>>
     requires over { IsOver before.now requested.now.universe }
     requires right { IsRight requested.now.universe (start_of before.now) solved.now }
-    ensures { IfOk result (IsToldWhere tells_reasons has_document
+    ensures { IsToldWhere tells_reasons
         (TellsSolved requested.now.universe
         (indices_of before.now.indices.now) (start_of before.now)
-        requested.now.asks_all_versions solved.now)) }
+        requested.now.asks_all_versions solved.now) result }
 {
     if !tells_reasons {
-        return Ok(None);
+        return None;
     }
     let text = solved_sentences(alloc, before, requested, solved);
-    told_in(text, has_document)
+    told_of(text)
 }

@@ -25,7 +25,7 @@ pub struct Answered {
     pub asks_all_versions: bool,
     /// The text of a refutation with its pairs named, where that is asked for.
     pub naming: Option<Items<u8>>,
-    /// What is told of the answer, each sentence a line of its own, where that is wanted.
+    /// What is told of the answer, each sentence a line of its own, where that is wanted and memory wasn't refused for it.
     pub reasons: Option<Items<u8>>,
     /// What a document has of the lines of a refutation, where there is to be one.
     pub members: Option<Members>,

@@ -8,8 +8,8 @@ pub struct Refuted {
     pub request: Items<u8>,
     /// The refutation, which is accepted: its pairs are named.
     pub refutation: Items<u8>,
-    /// The reasons, where they are wanted: a sentence a line. Their words aren't promised.
-    pub reasons: Items<u8>,
+    /// The reasons, where they are wanted and memory wasn't refused for them: a sentence a line. Their words aren't promised.
+    pub reasons: Option<Items<u8>>,
 }
 
 /// Whether a request can be met.

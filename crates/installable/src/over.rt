@@ -24,20 +24,16 @@ use std::alloc::{AllocError, Global};
 use universe_build::Listing;
 use written_refutation::write_naming;
 
-// The reasons of the refutation of a request, where they are wanted: a sentence for each premise of a core of it. Memory alone can fail.
-fn reasons_of(
+// A sentence for each premise of a core of the refutation of a request. Memory alone can fail.
+fn sentences_on(
     alloc: Global,
     before: &Before<'_, '_, '_, '_, '_, '_, '_, '_>,
     requested: &Requested<'_, '_>,
     refutation: &Refutation,
-    explains: bool,
 ) -> Result<Vec<u8>, AllocError>
     requires few { length requested.now.universe.pairs < 2 ^ 32 }
     requires distinct { HaveDistinctNames requested.now.universe.starts }
 {
-    if !explains {
-        return Ok(Vec::new(alloc));
-    }
     let premises = Premises::new(alloc, &requested.universe);
     let shorter = core(&premises, refutation)?;
     sentences(
@@ -49,7 +45,28 @@ fn reasons_of(
     )
 }
 
-// The texts of the request and of the refutation that was found of it, and the reasons, where they are wanted. Memory alone can fail.
+// The reasons of the refutation of a request, where they are wanted and memory isn't refused for them.
+fn reasons_of(
+    alloc: Global,
+    before: &Before<'_, '_, '_, '_, '_, '_, '_, '_>,
+    requested: &Requested<'_, '_>,
+    refutation: &Refutation,
+    explains: bool,
+) -> Option<Items<u8>>
+    requires few { length requested.now.universe.pairs < 2 ^ 32 }
+    requires distinct { HaveDistinctNames requested.now.universe.starts }
+{
+    if !explains {
+        return None;
+    }
+    match sentences_on(alloc, before, requested, refutation) {
+        Ok(text) => Some(Items::new(text)),
+        Err(AllocError) => None,
+    }
+}
+
+// The texts of the request and of the refutation that was found of it, and the reasons, where they are wanted and memory isn't refused for
+// them. Memory alone can fail.
 fn refuted_by(
     alloc: Global,
     before: &Before<'_, '_, '_, '_, '_, '_, '_, '_>,
@@ -65,11 +82,11 @@ fn refuted_by(
         (λ refuted. refuted.refutation ≡ naming_text requested.now.universe.pairs refutation.now) }
 {
     let text = write_naming(alloc, &requested.universe, refutation)?;
-    let reasons = reasons_of(alloc, before, requested, refutation, explains)?;
+    let reasons = reasons_of(alloc, before, requested, refutation, explains);
     Ok(Refuted {
         request: Items::new(request.to_vec(alloc)?),
         refutation: Items::new(text),
-        reasons: Items::new(reasons),
+        reasons,
     })
 }
 

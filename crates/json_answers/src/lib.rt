@@ -28,7 +28,7 @@ pub use lines::put_lines;
 pub use members::Members;
 pub use printed::{document, line_of, refused_document, text_object};
 pub use reading::read_archives;
-pub use sentences::{put_sentences, put_text_lines};
+pub use sentences::{put_text_lines, told_value};
 pub use steps::put_steps;
 pub use texts::{put_text, text_value};
 pub use values::push_value;

@@ -1,5 +1,5 @@
 // Lines of texts as arrays of strings.
-ghost use Rattle.std.specs.Prelude.{◌≡◌, ◌∷◌, ◌++◌, [], IfOk, OnOk, codes, map};
+ghost use Rattle.std.specs.Prelude.{◌≡◌, ◌∷◌, ◌++◌, [], IfOk, OnOk, map};
 ghost use Rattle.std.specs.List.{flat_map, slice_split};
 ghost use Rattle.serde_json.specs.View.{members_view, view};
 ghost use Rattle.json_answers.specs.TextLines as Spec;
@@ -7,6 +7,7 @@ ghost use Rattle.json_answers.specs.TextLines as Spec;
 use crate::members::Members;
 use crate::texts::text_value;
 use crate::values::push_value;
+use rules::Items;
 use serde_json::Value;
 use std::alloc::{AllocError, Global};
 
@@ -50,6 +51,17 @@ fn lines_value(alloc: Global, text: &[u8]) -> Result<Value, AllocError>
     Ok(Value::from(lines))
 }
 
+/// The lines of what is told that aren't empty, each a string without its newline, as an array; null where nothing is told. Memory alone can
+/// fail. Linear in the text.
+pub fn told_value(alloc: Global, told: &Option<Items<u8>>) -> Result<Value, AllocError>
+    ensures { IfOk result (λ value. view value ≡ Spec.told_data told.now) }
+{
+    match told {
+        Some(text) => lines_value(alloc, text.as_slice()),
+        None => Ok(Value::Null),
+    }
+}
+
 /// Puts the lines of the text that aren't empty, each a string without its newline, as an array at the key. Memory alone can fail.
 /// Linear in the text.
 pub fn put_text_lines(
@@ -62,13 +74,4 @@ pub fn put_text_lines(
         ≡ Spec.with_text_lines key.now text.now (members_view members.old.map.entries)) }
 {
     members.put(alloc, key, lines_value(alloc, text)?)
-}
-
-/// Puts the sentences, the lines of the text that aren't empty, each a string without its newline, as `reasons`. Memory alone can fail.
-/// Linear in the text.
-pub fn put_sentences(alloc: Global, members: &mut Members, text: &[u8]) -> Result<(), AllocError>
-    ensures { OnOk result (members_view members.new.map.entries
-        ≡ Spec.with_text_lines (codes "reasons") text.now (members_view members.old.map.entries)) }
-{
-    put_text_lines(alloc, members, "reasons", text)
 }

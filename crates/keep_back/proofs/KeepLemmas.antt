@@ -1,5 +1,5 @@
 -- What follows where lines are left out of a request, and where they are put back.
-use Rattle.std.proofs.Common.{◌≡◌, ◌∙◌, ℕ, suc, ◌<◌, ◌+◌, Bool, true, false, List, [], ◌∷◌, length, Option, None, Some, ap, arith, refl, subst, sym}
+use Rattle.std.proofs.Common.{◌≡◌, ◌∙◌, ℕ, suc, ◌<◌, ◌+◌, Bool, true, false, List, length, Option, None, Some, ap, arith, refl, subst, sym}
 use Rattle.std.specs.Prelude.{◌⊎◌, IfErr, IsErrAnd, OnOk, Result, Ok, Err}
 use Rattle.std.specs.List.{slice_set}
 use Rattle.std.proofs.lemmas.Bool.{cases_order}
@@ -24,7 +24,7 @@ use Rattle.solver.specs.Solved.{IsSolved}
 use Rattle.solver.specs.declared.solved.Solved.{Solved}
 use Rattle.solver.specs.declared.solved.Solved.TheVariants as solved
 use Rattle.keep_back.specs.Back.{AreAlone, IsAlone, IsPass, IsPutBack, IsRestKept, IsSame, IsTried, count_out}
-use Rattle.keep_back.specs.Further.{AllStay, AreOut, AsksAt, IsFewer, IsFewerBy, IsFurther, IsFurtherRefusal, IsLeftOutFor, IsRefusedWith, IsRestRefusal, IsRestRefused, IsStep, WasOut, request_of}
+use Rattle.keep_back.specs.Further.{AllStay, AreOut, AsksAt, IsFewer, IsFewerBy, IsFurther, IsFurtherRefusal, IsRefusedWith, IsRestRefusal, WasOut, request_of}
 use Rattle.keep_back.specs.KeptBack.{AreLinesOf, AreWithoutPlan, IsKeptBack, IsKeptRefusal, IsLeft, IsRest, WasLeftOut, request_left}
 use Rattle.keep_back.specs.Reason.{IsRefutation, has_no_plan}
 use Rattle.keep_back.specs.Round.{IsRefutedRequest, IsRequestWithoutPlan, IsRequestedBy, IsSolvedRequest}
@@ -328,7 +328,7 @@ pub is-kept : (before : Before) (texts : Texts) (limit : ℕ) (tells_reasons has
     → AreReadAs texts before → IsLeft texts limit kept.stays kept.request.items
     → IsSolvedRequest before limit kept.request.items kept.solved → back.answered.solved ≡ kept.solved.solved
     → back.answered.asks_all_versions ≡ kept.solved.requested.asks_all_versions → back.answered.naming ≡ None
-    → IsToldWhere tells_reasons has_document (TellsSolved kept.solved.requested.universe (indices_of before.indices.now) (start_of before) back.answered.asks_all_versions back.answered.solved)
+    → IsToldWhere tells_reasons (TellsSolved kept.solved.requested.universe (indices_of before.indices.now) (start_of before) back.answered.asks_all_versions back.answered.solved)
     back.answered.reasons
     → HasSolvedLines kept.solved.requested.universe has_document back.answered.solved back.answered.members
     → back.request ≡ kept.request.items → back.stays ≡ kept.stays → IsKeptBack texts limit tells_reasons has_document back

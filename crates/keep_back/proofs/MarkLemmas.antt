@@ -1,9 +1,8 @@
 -- Which lines stay once one is marked anew, and how many don't.
-use Rattle.std.proofs.Common.{◌≡◌, ◌∙◌, ℕ, zero, suc, ◌<◌, Bool, true, false, List, [], ◌∷◌, length, ap, arith, refl, subst, sym, replicate}
+use Rattle.std.proofs.Common.{◌≡◌, ℕ, zero, suc, ◌<◌, Bool, true, false, List, [], ◌∷◌, length, ap, arith, refl, replicate}
 use Rattle.std.specs.Prelude.{◌⊎◌}
-use Rattle.std.specs.List.{slice_index_or, slice_set}
+use Rattle.std.specs.List.{slice_set}
 use Rattle.keep_back.specs.Back.{count_out}
-use Rattle.keep_back.specs.Further.{AllStay}
 use Rattle.request_lines.specs.Spelled.{stays_at}
 use mathlib.Core.Logic.{inl, inr}
 

@@ -1,7 +1,7 @@
 -- What was left out of a request, one goal after the other.
 use Rattle.std.specs.Prelude.{◌≡◌, ◌⊎◌, ℕ, Bool, true, false, List, [], length, Option, None, Some}
 use Rattle.std.specs.List.{slice_index_or}
-use Rattle.inputs.specs.ReadAs.{AreReadAs, asking}
+use Rattle.inputs.specs.ReadAs.{asking}
 use Rattle.inputs.specs.Reading.{out_of_memory}
 use Rattle.inputs.specs.Refused.{IsRefusal}
 use Rattle.inputs.specs.Texts.{Texts}

@@ -69,8 +69,7 @@ abbrev pub IsLeft : Texts → ℕ → Option (List Bool) → List ℕ → Type 0
 IsLeft texts limit None request = texts.request ≡ Some request
 IsLeft texts limit (Some stays) request = (lines : List (List ℕ)) × IsRest texts lines stays request × IsAsMuchAsCanBe texts limit lines stays
 
--- the answer is true of the request that is left, with the reasons where they are wanted and the lines of a refutation where there is a
--- document
+-- the answer is true of the request that is left, with the reasons that are told and the lines of a refutation where there is a document
 pub record IsKeptBack (texts : Texts) (limit : ℕ) (tells_reasons has_document : Bool) (kept : KeptBack) : Type 0 where
   pub left : IsLeft texts limit kept.stays kept.request
   pub holds : IsSolution (asking kept.request texts) limit false tells_reasons has_document kept.answered

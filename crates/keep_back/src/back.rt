@@ -15,7 +15,7 @@ ghost use Rattle.request_lines.specs.Spelled.{stays_at};
 
 use crate::kept::{show_left, solved_of};
 use crate::left::Left;
-use crate::note::{push_refuted, push_undecided};
+use crate::note::{push_reasons, push_refuted, push_undecided, push_wish};
 use crate::round::SolvedRequest;
 use inputs::{Before, Refusal, Shelf};
 use refutation::Refutation;
@@ -26,13 +26,12 @@ use solver::Solved;
 use std::alloc::{AllocError, Global};
 use universe_build::Listing;
 
-// Tells why the wish is left out of the request that this refutation refutes.
-fn tell_refuted(
+// Writes a sentence for each premise of a core of the refutation. Memory alone can fail.
+fn tell_reasons(
     alloc: Global,
     before: &Before<'_, '_, '_, '_, '_, '_, '_, '_>,
     solved: &SolvedRequest<'_, '_>,
     refutation: &Refutation,
-    wish: &Wish,
     notes: &mut Vec<u8>,
 ) -> Result<(), AllocError>
     requires few { length solved.now.requested.universe.pairs < 2 ^ 32 }
@@ -47,7 +46,31 @@ fn tell_refuted(
         &core,
         solved.requested.asks_all_versions,
     )?;
-    push_refuted(notes, wish, told.as_slice())
+    push_reasons(notes, told.as_slice())
+}
+
+// Tells why the wish is left out of the request that this refutation refutes, or that it is refuted, where memory is refused for the reasons.
+// Memory alone can fail.
+fn tell_refuted(
+    alloc: Global,
+    before: &Before<'_, '_, '_, '_, '_, '_, '_, '_>,
+    solved: &SolvedRequest<'_, '_>,
+    refutation: &Refutation,
+    wish: &Wish,
+    notes: &mut Vec<u8>,
+) -> Result<(), AllocError>
+    requires few { length solved.now.requested.universe.pairs < 2 ^ 32 }
+    requires distinct { HaveDistinctNames solved.now.requested.universe.starts }
+{
+    push_wish(notes, wish)?;
+    let told = notes.len();
+    match tell_reasons(alloc, before, solved, refutation, notes) {
+        Ok(()) => Ok(()),
+        Err(AllocError) => {
+            notes.truncate(told);
+            push_refuted(notes)
+        }
+    }
 }
 
 // Tells why the wish is left out of the request with this answer: whether the answer is no plan.
@@ -69,7 +92,8 @@ fn tell_out(
             Ok(true)
         }
         Solved::Undecided(_) => {
-            push_undecided(notes, wish)?;
+            push_wish(notes, wish)?;
+            push_undecided(notes)?;
             Ok(true)
         }
     }

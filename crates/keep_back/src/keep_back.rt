@@ -96,7 +96,7 @@ fn kept_back_of<'a>(
         (λ kept_back. kept_back.answered.asks_all_versions
         ≡ kept.entry.solved.requested.asks_all_versions) }
     ensures naming { IfOk result (λ kept_back. kept_back.answered.naming ≡ None) }
-    ensures reasons { IfOk result (λ kept_back. IsToldWhere tells_reasons has_document
+    ensures reasons { IfOk result (λ kept_back. IsToldWhere tells_reasons
         (TellsSolved kept.entry.solved.requested.universe
         (indices_of before.now.indices.now) (start_of before.now)
         kept_back.answered.asks_all_versions kept_back.answered.solved)

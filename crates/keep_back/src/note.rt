@@ -33,8 +33,8 @@ fn push_indented(text: &mut Vec<u8>, lines: &[u8]) -> Result<(), AllocError> {
     Ok(())
 }
 
-// Writes that the wish is kept back.
-fn push_wish(text: &mut Vec<u8>, wish: &Wish) -> Result<(), AllocError> {
+/// Writes that the wish is kept back. Memory alone can fail.
+pub(crate) fn push_wish(text: &mut Vec<u8>, wish: &Wish) -> Result<(), AllocError> {
     text.extend_from_slice(b"Kept back: ")?;
     text.extend_from_slice(wish.text.as_bytes())?;
     text.extend_from_slice(b" (line ")?;
@@ -42,19 +42,18 @@ fn push_wish(text: &mut Vec<u8>, wish: &Wish) -> Result<(), AllocError> {
     text.extend_from_slice(b"), since:\n")
 }
 
-/// Writes that the wish is kept back, and behind it what these sentences say but for their closing line. Memory alone can fail.
-pub(crate) fn push_refuted(
-    text: &mut Vec<u8>,
-    wish: &Wish,
-    sentences: &[u8],
-) -> Result<(), AllocError> {
-    push_wish(text, wish)?;
+/// Writes below a wish what these sentences say but for their closing line. Memory alone can fail.
+pub(crate) fn push_reasons(text: &mut Vec<u8>, sentences: &[u8]) -> Result<(), AllocError> {
     push_indented(text, without_last_line(sentences))
 }
 
-/// Writes that the wish is kept back, since it isn't known whether it can be had beside what is left. Memory alone can fail.
-pub(crate) fn push_undecided(text: &mut Vec<u8>, wish: &Wish) -> Result<(), AllocError> {
-    push_wish(text, wish)?;
+/// Writes below a wish that it can't be had beside what is left, where the reasons aren't told. Memory alone can fail.
+pub(crate) fn push_refuted(text: &mut Vec<u8>) -> Result<(), AllocError> {
+    text.extend_from_slice(b"  With it the request that is left can't be satisfied.\n")
+}
+
+/// Writes below a wish that it isn't known whether it can be had beside what is left. Memory alone can fail.
+pub(crate) fn push_undecided(text: &mut Vec<u8>) -> Result<(), AllocError> {
     text.extend_from_slice(b"  With it the request that is left isn't decided.\n")
 }
 

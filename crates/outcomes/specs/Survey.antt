@@ -1,11 +1,11 @@
 -- What is printed of packages that are asked about, and with which status the program ends then (this project's own form).
-use Rattle.std.specs.Prelude.{◌≡◌, ◌==◌, ◌||◌, ℕ, Bool, true, false, List, [], ◌∷◌, ◌++◌, Result, Ok, Err, codes, decimal, length, if◌then◌else◌}
+use Rattle.std.specs.Prelude.{◌≡◌, ◌==◌, ◌||◌, ℕ, Bool, true, false, List, [], ◌∷◌, ◌++◌, Option, None, Result, Ok, Err, codes, decimal, length, if◌then◌else◌}
 use Rattle.std.specs.List.{filter, flat_map, list_any}
 use Rattle.command_line.specs.declared.call.Format.{Format}
 use Rattle.command_line.specs.declared.call.Format.TheVariants as format
 use Rattle.json_answers.specs.Document.{IsLineOf, object_with, text_data}
 use Rattle.json_answers.specs.Objects.{with_number, with_text}
-use Rattle.json_answers.specs.TextLines.{lines_data}
+use Rattle.json_answers.specs.TextLines.{told_data}
 use Rattle.inputs.specs.declared.refusal.Refusal.{Refusal}
 use Rattle.installable.specs.declared.answer.Installability.{Installability}
 use Rattle.installable.specs.declared.answer.Installability.TheVariants as answer
@@ -77,9 +77,13 @@ with_package answered others = put (codes "version") (text_data answered.version
 abbrev pub without_package : Members → Members
 without_package others = put (codes "version") null (put (codes "name") null others)
 
--- the members with a request that can't be met, its refutation and the reasons
-abbrev pub with_refuted : Refuted → Members → Members
-with_refuted refuted others = put (codes "reasons") (lines_data refuted.reasons) (put (codes "refutation") (text_data refuted.refutation)
+-- the reasons of a request that can't be met, if it tells them
+abbrev pub reasons_if : Bool → Refuted → Option (List ℕ)
+reasons_if tells refuted = if tells then refuted.reasons else None
+
+-- the members with a request that can't be met, its refutation and the reasons, if it tells them
+abbrev pub with_refuted : Bool → Refuted → Members → Members
+with_refuted tells refuted others = put (codes "reasons") (told_data (reasons_if tells refuted)) (put (codes "refutation") (text_data refuted.refutation)
     (put (codes "request") (text_data refuted.request) (with_text (codes "answer") (codes "broken") others)))
 
 -- the members with why it isn't known whether a request can be met, in a word
@@ -87,15 +91,15 @@ abbrev pub with_why : List ℕ → Members → Members
 with_why word others = with_text (codes "why") word (with_text (codes "answer") (codes "undecided") others)
 
 -- the members with what is answered to a request
-abbrev pub with_installability : Installability → Members → Members
-with_installability answer.Installable others = others
-with_installability (answer.Broken refuted) others = with_refuted refuted others
-with_installability (answer.Limit limit) others = with_why (codes "limit") others
-with_installability answer.Unchecked others = with_why (codes "unchecked") others
+abbrev pub with_installability : Bool → Installability → Members → Members
+with_installability tells answer.Installable others = others
+with_installability tells (answer.Broken refuted) others = with_refuted tells refuted others
+with_installability tells (answer.Limit limit) others = with_why (codes "limit") others
+with_installability tells answer.Unchecked others = with_why (codes "unchecked") others
 
 -- the object of the line of a request of this subject, beside these members
-abbrev pub object_of : List ℕ → Members → Installability → Data
-object_of subject members answered = object_with (line_of subject answered) (with_installability answered members)
+abbrev pub object_of : Bool → List ℕ → Members → Installability → Data
+object_of tells subject members answered = object_with (line_of subject answered) (with_installability tells answered members)
 
 -- the request has an acceptable selection
 abbrev pub is_met : Installability → Bool
@@ -103,17 +107,17 @@ is_met answer.Installable = true
 is_met answered = false
 
 -- the same, by itself, if there is a line
-abbrev pub objects_by : List ℕ → Members → Installability → List Data
-objects_by subject members answered = if is_met answered then [] else object_of subject members answered ∷ []
+abbrev pub objects_by : Bool → List ℕ → Members → Installability → List Data
+objects_by tells subject members answered = if is_met answered then [] else object_of tells subject members answered ∷ []
 
 -- so of a package
-abbrev pub package_objects : PackageAnswer → List Data
-package_objects answered = objects_by (subject_of answered) (with_package answered no_members) answered.installability
+abbrev pub package_objects : Bool → PackageAnswer → List Data
+package_objects tells answered = objects_by tells (subject_of answered) (with_package answered no_members) answered.installability
 
 -- the objects of the lines of what stands beside each package and of the packages, in their order
-abbrev pub answer_objects : Surveyed → List Data
-answer_objects surveyed =
-    objects_by (codes "base") (without_package no_members) surveyed.base ++ flat_map package_objects surveyed.packages
+abbrev pub answer_objects : Bool → Surveyed → List Data
+answer_objects tells surveyed =
+    objects_by tells (codes "base") (without_package no_members) surveyed.base ++ flat_map (package_objects tells) surveyed.packages
 
 -- how many packages are asked about, broken and undecided
 abbrev pub survey_counts_data : List PackageAnswer → Data
@@ -143,12 +147,16 @@ abbrev pub counts_object : Surveyed → Data
 counts_object surveyed = object_with (counts_line surveyed.packages) (with_counts surveyed no_members)
 
 -- the objects of all lines, in their order
-abbrev pub survey_objects : Surveyed → List Data
-survey_objects surveyed = answer_objects surveyed ++ counts_object surveyed ∷ []
+abbrev pub survey_objects : Bool → Surveyed → List Data
+survey_objects tells surveyed = answer_objects tells surveyed ++ counts_object surveyed ∷ []
 
 -- the members of one document of the answers: the objects of the lines before the last one are one of them
-abbrev pub with_survey : Surveyed → Members → Members
-with_survey surveyed others = put (codes "packages") (array (items_of (answer_objects surveyed))) (with_counts surveyed others)
+abbrev pub with_survey : Bool → Surveyed → Members → Members
+with_survey tells surveyed others = put (codes "packages") (array (items_of (answer_objects tells surveyed))) (with_counts surveyed others)
+
+-- those of one document of the answers, which tells their reasons, or doesn't, where memory is refused for members that do
+abbrev pub AreOfSurvey : Surveyed → Members → Type 0
+AreOfSurvey surveyed all = (tells : Bool) × (all ≡ with_survey tells surveyed no_members)
 
 -- lines of these values stand one behind another
 abbrev pub AreJsonLines : List Data → List ℕ → Type 0
@@ -156,10 +164,11 @@ AreJsonLines [] printed = printed ≡ []
 AreJsonLines (value ∷ values) printed =
     (first : List ℕ) × (rest : List ℕ) × (printed ≡ first ++ rest) × IsLineOf value first × AreJsonLines values rest
 
--- the answers about packages are printed in this format: as their lines, or as a line of the object of each of them
+-- the answers about packages are printed in this format: as their lines, or as a line of the object of each of them, which tell their
+-- reasons, or don't, where memory is refused for the objects that do
 abbrev pub IsSurveyIn : Format → Surveyed → List ℕ → Type 0
 IsSurveyIn format.Text surveyed printed = printed ≡ survey_text surveyed
-IsSurveyIn format.Json surveyed printed = AreJsonLines (survey_objects surveyed) printed
+IsSurveyIn format.Json surveyed printed = (tells : Bool) × AreJsonLines (survey_objects tells surveyed) printed
 
 -- the outcome is that of the answers about packages: they on standard output, in this format, a refusal's line on standard error
 abbrev pub IsOutcomeOfSurvey : Format → Result Surveyed Refusal → Outcome → Type 0

@@ -1,7 +1,9 @@
 //! What is printed of packages that are asked about, as JSON texts: one for each line.
 ghost use Rattle.std.specs.Prelude.{◌≡◌, ◌++◌, IfOk, OnOk, map};
 ghost use Rattle.std.specs.List.{flat_map};
+ghost use Rattle.command_line.specs.declared.call.Format.TheVariants as format;
 ghost use Rattle.json_answers.specs.Document.{object_with};
+ghost use Rattle.json_answers.specs.TextLines.{told_data};
 ghost use Rattle.outcomes.specs.Survey as Spec;
 ghost use Rattle.outcomes.specs.Survey.{AreJsonLines};
 ghost use Rattle.serde_json.specs.Data.{no_members};
@@ -13,22 +15,39 @@ use crate::survey::{
 };
 use installable::{Installability, PackageAnswer, Refuted, Surveyed};
 use json_answers::{
-    Members, line_of, push_value, put_sentences, put_text, put_undecided, text_object, text_value,
+    Members, line_of, push_value, put_text, put_undecided, text_object, text_value, told_value,
 };
 use serde_json::{Value, json};
 use std::alloc::{AllocError, Global};
 
-// Puts the request, its refutation and the reasons.
-fn put_refuted(alloc: Global, members: &mut Members, refuted: &Refuted) -> Result<(), AllocError>
+// The reasons of a request that can't be met, if they are told.
+fn reasons_value(alloc: Global, refuted: &Refuted, tells: bool) -> Result<Value, AllocError>
+    ensures { IfOk result (λ value. view value ≡ told_data (Spec.reasons_if tells refuted.now)) }
+{
+    if tells {
+        told_value(alloc, &refuted.reasons)
+    } else {
+        Ok(Value::Null)
+    }
+}
+
+// Puts the request, its refutation and the reasons, if they are told.
+fn put_refuted(
+    alloc: Global,
+    members: &mut Members,
+    refuted: &Refuted,
+    tells: bool,
+) -> Result<(), AllocError>
     ensures { OnOk result (members_view members.new.map.entries
-        ≡ Spec.with_refuted refuted.now (members_view members.old.map.entries)) }
+        ≡ Spec.with_refuted tells refuted.now (members_view members.old.map.entries)) }
 {
     let request = text_value(alloc, refuted.request.as_slice())?;
     let refutation = text_value(alloc, refuted.refutation.as_slice())?;
+    let reasons = reasons_value(alloc, refuted, tells)?;
     put_text(alloc, members, "answer", "broken")?;
     members.put(alloc, "request", request)?;
     members.put(alloc, "refutation", refutation)?;
-    put_sentences(alloc, members, refuted.reasons.as_slice())
+    members.put(alloc, "reasons", reasons)
 }
 
 // Puts what is answered to a request.
@@ -36,13 +55,15 @@ fn put_installability(
     alloc: Global,
     members: &mut Members,
     installability: &Installability,
+    tells: bool,
 ) -> Result<(), AllocError>
     ensures { OnOk result (members_view members.new.map.entries
-        ≡ Spec.with_installability installability.now (members_view members.old.map.entries)) }
+        ≡ Spec.with_installability tells installability.now
+        (members_view members.old.map.entries)) }
 {
     match installability {
         Installability::Installable => Ok(()),
-        Installability::Broken(refuted) => put_refuted(alloc, members, refuted),
+        Installability::Broken(refuted) => put_refuted(alloc, members, refuted, tells),
         Installability::Limit(_) => put_undecided(alloc, members, "limit"),
         Installability::Unchecked => put_undecided(alloc, members, "unchecked"),
     }
@@ -78,13 +99,14 @@ fn object_of(
     subject: &[u8],
     members: Members,
     installability: &Installability,
+    tells: bool,
 ) -> Result<Value, AllocError>
     ensures { IfOk result (λ value.
-        view value ≡ Spec.object_of subject.now
+        view value ≡ Spec.object_of tells subject.now
         (members_view members.map.entries) installability.now) }
 {
     let mut all = members;
-    put_installability(alloc, &mut all, installability)?;
+    put_installability(alloc, &mut all, installability, tells)?;
     let mut line = Vec::new(alloc);
     push_installability(&mut line, subject, installability)?;
     text_object(alloc, all, line.as_slice())
@@ -97,14 +119,16 @@ fn push_answer(
     subject: &[u8],
     members: Members,
     installability: &Installability,
+    tells: bool,
 ) -> Result<(), AllocError>
     ensures { OnOk result (map view objects.new.items ≡ map view objects.old.items
-        ++ Spec.objects_by subject.now (members_view members.map.entries) installability.now) }
+        ++ Spec.objects_by tells subject.now
+        (members_view members.map.entries) installability.now) }
 {
     if is_met(installability) {
         return Ok(());
     }
-    let object = object_of(alloc, subject, members, installability)?;
+    let object = object_of(alloc, subject, members, installability, tells)?;
     push_value(objects, object)
 }
 
@@ -120,10 +144,11 @@ fn push_package(
     alloc: Global,
     objects: &mut Vec<Value>,
     answer: &PackageAnswer,
+    tells: bool,
 ) -> Result<(), AllocError>
     ensures { OnOk result
         (map view objects.new.items ≡ map view objects.old.items
-        ++ Spec.package_objects answer.now) }
+        ++ Spec.package_objects tells answer.now) }
 {
     let subject = subject_of(alloc, answer)?;
     let members = members_of_package(alloc, answer)?;
@@ -133,6 +158,7 @@ fn push_package(
         subject.as_slice(),
         members,
         &answer.installability,
+        tells,
     )
 }
 
@@ -141,25 +167,27 @@ fn push_packages(
     alloc: Global,
     objects: &mut Vec<Value>,
     answers: &[PackageAnswer],
+    tells: bool,
 ) -> Result<(), AllocError>
     ensures { OnOk result
         (map view objects.new.items ≡ map view objects.old.items
-        ++ flat_map Spec.package_objects answers.now) }
+        ++ flat_map (Spec.package_objects tells) answers.now) }
 {
     for answer in answers {
-        push_package(alloc, objects, answer)?;
+        push_package(alloc, objects, answer, tells)?;
     }
     Ok(())
 }
 
 // The objects of the lines of what is answered: of what stands beside each package, and of the packages.
-fn answer_objects(alloc: Global, surveyed: &Surveyed) -> Result<Vec<Value>, AllocError>
-    ensures { IfOk result (λ objects. map view objects.items ≡ Spec.answer_objects surveyed.now) }
+fn answer_objects(alloc: Global, surveyed: &Surveyed, tells: bool) -> Result<Vec<Value>, AllocError>
+    ensures { IfOk result
+        (λ objects. map view objects.items ≡ Spec.answer_objects tells surveyed.now) }
 {
     let mut objects = Vec::new(alloc);
     let members = members_of_base(alloc)?;
-    push_answer(alloc, &mut objects, b"base", members, &surveyed.base)?;
-    push_packages(alloc, &mut objects, surveyed.packages.as_slice())?;
+    push_answer(alloc, &mut objects, b"base", members, &surveyed.base, tells)?;
+    push_packages(alloc, &mut objects, surveyed.packages.as_slice(), tells)?;
     Ok(objects)
 }
 
@@ -221,25 +249,48 @@ fn lines_of(alloc: Global, objects: &[Value]) -> Result<Vec<u8>, AllocError>
     Ok(text)
 }
 
-/// A JSON text for each line that is printed of the answers about packages, in their order: a line of an object whose member `text` is
-/// that line. Memory alone can fail.
-pub(crate) fn survey_documents(alloc: Global, surveyed: &Surveyed) -> Result<Vec<u8>, AllocError>
-    ensures { IfOk result (λ text. AreJsonLines (Spec.survey_objects surveyed.now) text.items) }
+// The texts that tell the reasons, or that don't.
+fn documents_of(alloc: Global, surveyed: &Surveyed, tells: bool) -> Result<Vec<u8>, AllocError>
+    ensures { IfOk result
+        (λ text. AreJsonLines (Spec.survey_objects tells surveyed.now) text.items) }
 {
-    let mut objects = answer_objects(alloc, surveyed)?;
+    let mut objects = answer_objects(alloc, surveyed, tells)?;
     push_value(&mut objects, counts_object(alloc, surveyed)?)?;
     lines_of(alloc, objects.as_slice())
 }
 
-/// The members of one document of the answers about packages: whether all can be installed, how many packages are so, and as `packages`
-/// the objects of their lines, as each has a document of its own. Memory alone can fail.
-pub fn members_of_survey(alloc: Global, surveyed: &Surveyed) -> Result<Members, AllocError>
-    ensures { IfOk result
-        (λ members. members_view members.map.entries ≡ Spec.with_survey surveyed.now no_members) }
+/// A JSON text for each line that is printed of the answers about packages, in their order: a line of an object whose member `text` is
+/// that line. Where memory is refused for texts that tell the reasons, they don't. Memory alone can fail.
+pub(crate) fn survey_documents(alloc: Global, surveyed: &Surveyed) -> Result<Vec<u8>, AllocError>
+    ensures { IfOk result (λ text. Spec.IsSurveyIn format.Json surveyed.now text.items) }
+{
+    match documents_of(alloc, surveyed, true) {
+        Ok(text) => Ok(text),
+        Err(AllocError) => documents_of(alloc, surveyed, false),
+    }
+}
+
+// The members that tell the reasons, or that don't.
+fn members_by(alloc: Global, surveyed: &Surveyed, tells: bool) -> Result<Members, AllocError>
+    ensures { IfOk result (λ members.
+        members_view members.map.entries ≡ Spec.with_survey tells surveyed.now no_members) }
 {
     let mut members = Members::new(alloc);
     put_counts(alloc, &mut members, surveyed)?;
-    let objects = answer_objects(alloc, surveyed)?;
+    let objects = answer_objects(alloc, surveyed, tells)?;
     members.put(alloc, "packages", Value::from(objects))?;
     Ok(members)
+}
+
+/// The members of one document of the answers about packages: whether all can be installed, how many packages are so, and as `packages`
+/// the objects of their lines, as each has a document of its own. Where memory is refused for members that tell the reasons, they don't.
+/// Memory alone can fail.
+pub fn members_of_survey(alloc: Global, surveyed: &Surveyed) -> Result<Members, AllocError>
+    ensures { IfOk result
+        (λ members. Spec.AreOfSurvey surveyed.now (members_view members.map.entries)) }
+{
+    match members_by(alloc, surveyed, true) {
+        Ok(members) => Ok(members),
+        Err(AllocError) => members_by(alloc, surveyed, false),
+    }
 }

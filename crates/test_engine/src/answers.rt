@@ -60,7 +60,6 @@ fn judged(
         &SETTINGS,
         &CheckPlan {
             tells_reasons: false,
-            has_document: false,
         },
         &mut notes,
     )

@@ -1,7 +1,7 @@
 //! The lines of documents, by hand as RFC 8259 has them: the members of an object stand in the order of the bytes of their keys.
 use json_answers::{
-    Archives, Members, candidate_value, document, no_candidate_value, put_bad_line, put_sentences,
-    put_steps, put_undecided, put_verdict, read_archives,
+    Archives, Members, candidate_value, document, no_candidate_value, put_bad_line, put_steps,
+    put_text_lines, put_undecided, put_verdict, read_archives,
 };
 use plantext::{PlanError, read_plan};
 use rules::{Reason, Rule, Text, Verdict};
@@ -180,7 +180,7 @@ fn document_of_words(alloc: Global) -> Result<Vec<u8>, AllocError> {
         candidate_value(alloc, b"foo", b"1.0", -1)?,
     )?;
     members.put(alloc, "none", no_candidate_value(alloc, b"bar")?)?;
-    put_sentences(alloc, &mut members, b"One.\nTwo.\n")?;
+    put_text_lines(alloc, &mut members, "reasons", b"One.\nTwo.\n")?;
     document(alloc, members, b"")
 }
 

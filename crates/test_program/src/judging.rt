@@ -131,7 +131,6 @@ fn judged<H: Host>(alloc: Global, host: &mut H) -> Result<JudgedPlan, Refusal> {
         &SETTINGS,
         &CheckPlan {
             tells_reasons: false,
-            has_document: false,
         },
         &mut notes,
     )

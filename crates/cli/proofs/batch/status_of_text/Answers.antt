@@ -1,5 +1,5 @@
 -- What is printed behind the replies, behind a refusal, and where memory was wanting.
-use Rattle.std.proofs.Common.{List, Option, codes, inl, inr, refl, subst, ℕ}
+use Rattle.std.proofs.Common.{List, Option, codes, inr, refl, subst, ℕ}
 use Rattle.cli.proofs.BatchLemmas.{IsToldSo, told_of_refusal, told_of_replies}
 use Rattle.cli.specs.Calls.{texts_at}
 use Rattle.cli.specs.Files.{Files}

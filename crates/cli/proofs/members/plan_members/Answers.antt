@@ -1,8 +1,8 @@
 -- What is told and the steps are put, and last the verdict.
-use Rattle.std.proofs.Common.{◌∙◌, List, ap, subst}
+use Rattle.std.proofs.Common.{List, subst}
 use Rattle.cli.proofs.members.plan_members.Goals as goal
 use Rattle.cli.specs.Again.{archives_by}
-use Rattle.cli.specs.Members.{with_told}
+use Rattle.cli.specs.Members.{AreTold}
 use Rattle.inputs.specs.Texts.{texts_of}
 use Rattle.json_answers.specs.Steps.{AreWithSteps}
 use Rattle.rules.specs.declared.step.Step.{Step}
@@ -18,9 +18,9 @@ returns-clause-members g c at known =
     let stepped = members_view c.put_plan.new.members.map.entries in
     record {
       hints = hints;
+      told = told;
       stepped = stepped;
-      steps = subst (λ (old : Members). AreWithSteps archives judged.steps.items old stepped)
-          (c.in_ok-put_told.ensures ∙ ap (with_told judged.reasons hints) c.new-members.ensures)
-          (subst (λ (steps : List Step). AreWithSteps archives steps told stepped) c.as_slice.ensures.value (c.in_ok-put_plan.ensures.steps at known));
+      reasons = subst (λ (old : Members). AreTold judged.reasons hints old told) c.new-members.ensures c.in_ok-put_told.ensures;
+      steps = subst (λ (steps : List Step). AreWithSteps archives steps told stepped) c.as_slice.ensures.value (c.in_ok-put_plan.ensures.steps at known);
       answer = c.in_ok-put_verdict.ensures;
     }

@@ -1,5 +1,5 @@
 -- The files of what is broken were put, or one of them couldn't be written.
-use Rattle.std.proofs.Common.{◌∙◌, List, Option, inl, inr, subst}
+use Rattle.std.proofs.Common.{◌∙◌, List, inl, inr, subst}
 use Rattle.cli.proofs.PutLemmas.{none_of_files, some_of_files, stopped_left}
 use Rattle.cli.proofs.packages.outcome_of_answers.Goals as goal
 use Rattle.cli.specs.Packages.{ArePut, IsStopped}

@@ -1,10 +1,8 @@
 -- What is printed is what is said of the texts of the files.
-use Rattle.std.proofs.Common.{Bool, subst}
 use Rattle.cli.proofs.ResultLemmas.{if_ok}
 use Rattle.cli.proofs.plan.outcome_of_plan_judged.Goals as goal
 use Rattle.cli.specs.Calls.{IsOutcomeOfPlanJudged, texts_at}
 use Rattle.cli.specs.Files.{judged_at, shelved_at}
-use Rattle.cli_engine.specs.Meaning.{IsSaid}
 use Rattle.outcomes.specs.Outcome.{IsOutcomeIn}
 use Rattle.serde_json.specs.View.{members_view}
 
@@ -21,9 +19,7 @@ returns-clause-printed g c at known =
       (
         c.tells_reasons.result,
         c.tells_reasons.ensures,
-        subst (λ (has : Bool).
-            IsSaid texts (judged_at at c.args.arguments.now.paths.judged.now) c.tells_reasons.result has c.ask_files-answer.result)
-            c.is_document.ensures (c.ask_files-answer.ensures.said at known),
+        c.ask_files-answer.ensures.said at known,
       ),
       c.in_ok-plain.ensures,
       c.in_ok-members.ensures.members (shelved_at at c.args.arguments.now.paths) (c.ask_files-answer.ensures.texts at known),

@@ -1,5 +1,5 @@
 -- What is printed is written, and what is left is left by it; or memory was wanting, and then nothing stands on standard output.
-use Rattle.std.proofs.Common.{Global, IsErr, List, Option, Vec, codes, inl, inr, map, refl, rules, subst, ℕ}
+use Rattle.std.proofs.Common.{Global, IsErr, Vec, codes, inl, inr, map, refl, rules, subst, ℕ}
 use Rattle.cli.proofs.ToldLemmas.{err_says, memory_written, outcome_left, outcome_told, status_left, status_told, untold_left}
 use Rattle.cli.specs.Words.{IsLeftOfWords, IsOutcomeOfWords}
 use Rattle.conversation.specs.Stream.{written_on}

@@ -16,7 +16,7 @@ use Rattle.cli.specs.Words.{IsLeftOfWords, IsOutcomeOfWords}
 use Rattle.command_line.specs.Asked.{asked_by}
 use Rattle.command_line.specs.Joined.{joined_words}
 use Rattle.command_line.specs.Spelled.{faults_of, spelled}
-use Rattle.outcomes.specs.Outcome.{IsOutcomeOfKind, Streams, streams_on}
+use Rattle.outcomes.specs.Outcome.{IsOutcomeOfKind, streams_on}
 
 pub returns-in_err-texts-clause-left : goal.returns-in_err-texts-clause-left
 returns-in_err-texts-clause-left g c at was f k =

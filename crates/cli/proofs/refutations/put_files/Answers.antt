@@ -1,5 +1,5 @@
 -- One more file was put, or it is the first that wasn't.
-use Rattle.std.proofs.Common.{◌≡◌, ◌∙◌, ◌∷◌, ◌++◌, ◌+◌, [], List, ap, drop, get_or, suc, subst, sym, take}
+use Rattle.std.proofs.Common.{◌∙◌, ◌∷◌, ◌++◌, [], List, ap, drop, suc, subst, sym, take}
 use Rattle.std.proofs.lemmas.List.{take_more}
 use Rattle.cli.proofs.PutLemmas.{cut_at, err_of_files, known, none_of_file, put_more, put_still, some_of_file}
 use Rattle.cli.proofs.refutations.put_files.Goals as goal

@@ -1,12 +1,12 @@
 -- The names are those that are asked about.
 use Rattle.std.proofs.Common.{Global, IfOk, List, String, Vec, map, string_bytes, subst, ℕ}
 use Rattle.std.specs.Option.{unwrap_or}
-use Rattle.cli.specs.Batch.{AreOfSurvey, IsReplyWhere, survey_of}
+use Rattle.cli.specs.Batch.{IsReplyWhere, survey_of}
 use Rattle.cli.specs.Members.{AreOfCandidates}
 use Rattle.cli.specs.Packages.{IsSaidOfSurvey}
 use Rattle.cli_engine.specs.Answer.{IsSaidOfNames}
 use Rattle.outcomes.specs.Answer.{candidate_lines}
-use Rattle.outcomes.specs.Survey.{survey_text}
+use Rattle.outcomes.specs.Survey.{AreOfSurvey, survey_text}
 use Rattle.serde_json.specs.View.{view}
 use Rattle.cli.proofs.reply.reply_to_ask.Goals as goal
 

@@ -10,9 +10,9 @@ use Rattle.serde_json.specs.View.{view}
 use Rattle.cli.proofs.reply.reply_to_plan.Goals as goal
 
 pub returns-in-Ok : goal.returns-in-Ok
-returns-in-Ok c = λ texts read. replied_ok (view c.args.id) (IsSaid (asking c.args.request.now texts) (Some c.args.plan.now) true true) (λ judged. verdict_line judged.verdict)
+returns-in-Ok c = λ texts read. replied_ok (view c.args.id) (IsSaid (asking c.args.request.now texts) (Some c.args.plan.now) true) (λ judged. verdict_line judged.verdict)
     (AreOfPlan no_archives) c.answer_over.result c.in-Ok.judged c.reply_of_judged.result c.in-Ok.is (c.answer_over.ensures texts read) c.reply_of_judged.ensures
 
 pub returns : goal.returns
-returns c = λ texts read. replied_err (view c.args.id) (IsSaid (asking c.args.request.now texts) (Some c.args.plan.now) true true) (λ judged. verdict_line judged.verdict)
+returns c = λ texts read. replied_err (view c.args.id) (IsSaid (asking c.args.request.now texts) (Some c.args.plan.now) true) (λ judged. verdict_line judged.verdict)
     (AreOfPlan no_archives) c.answer_over.result c.in-Err.refusal c.reply_of_refusal.result c.in-Err.is (c.answer_over.ensures texts read) c.reply_of_refusal.ensures

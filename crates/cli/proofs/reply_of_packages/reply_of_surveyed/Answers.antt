@@ -1,9 +1,9 @@
 -- The text and the members of the document are those of the answers.
 use Rattle.std.proofs.Common.{◌∙◌, Global, IfOk, List, Vec, subst, ℕ}
 use Rattle.cli.proofs.ReplyLemmas.{reply_beside}
-use Rattle.cli.specs.Batch.{AreOfSurvey, with_id}
+use Rattle.cli.specs.Batch.{with_id}
 use Rattle.json_answers.specs.Document.{IsLineOf, object_with}
-use Rattle.outcomes.specs.Survey.{survey_text}
+use Rattle.outcomes.specs.Survey.{AreOfSurvey, survey_text}
 use Rattle.serde_json.specs.View.{members_view, view}
 use Rattle.cli.proofs.reply_of_packages.reply_of_surveyed.Goals as goal
 

@@ -1,10 +1,9 @@
 -- The survey is that of the names.
 use Rattle.std.proofs.Common.{◌∙◌, Global, IfOk, List, Vec, ap, map, string_bytes, subst, ℕ}
-use Rattle.std.specs.Option.{unwrap_or}
-use Rattle.cli.specs.Batch.{AreOfSurvey, IsReplyWhere, survey_of}
+use Rattle.cli.specs.Batch.{IsReplyWhere, survey_of}
 use Rattle.cli.specs.Packages.{IsSaidOfSurvey}
 use Rattle.command_line.specs.Asked.{Survey}
-use Rattle.outcomes.specs.Survey.{survey_text}
+use Rattle.outcomes.specs.Survey.{AreOfSurvey, survey_text}
 use Rattle.serde_json.specs.View.{view}
 use Rattle.cli.proofs.reply_of_packages.reply_to_installable.Goals as goal
 

@@ -1,9 +1,8 @@
 -- The reply is that of what is said of the packages by the texts.
 use Rattle.cli.proofs.ReplyLemmas.{replied_err, replied_ok}
-use Rattle.cli.specs.Batch.{AreOfSurvey}
 use Rattle.cli.specs.Packages.{IsSaidOfSurvey}
 use Rattle.command_line.specs.Asked.{survey_by}
-use Rattle.outcomes.specs.Survey.{survey_text}
+use Rattle.outcomes.specs.Survey.{AreOfSurvey, survey_text}
 use Rattle.serde_json.specs.View.{view}
 use Rattle.cli.proofs.reply_of_packages.reply_to_survey.Goals as goal
 

@@ -14,6 +14,6 @@ returns-clause-exact c =
 
 pub returns-clause-reasons : goal.returns-clause-reasons
 returns-clause-reasons c =
-    subst (λ (steps : List Step). IsToldWhere c.args.tells_reasons c.args.has_document
-    (TellsVerdict c.args.universe.now (start_of c.args.before.now) steps c.in_ok-verdict.verdict) c.in_ok-reasons.reasons)
-    c.as_slice-2.ensures.value c.in_ok-reasons.ensures
+    subst (λ (steps : List Step). IsToldWhere c.args.tells_reasons
+    (TellsVerdict c.args.universe.now (start_of c.args.before.now) steps c.in_ok-verdict.verdict) c.reasons_of_plan-reasons.result)
+    c.as_slice-2.ensures.value c.reasons_of_plan-reasons.ensures

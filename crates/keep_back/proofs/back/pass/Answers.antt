@@ -7,7 +7,6 @@ use Rattle.keep_back.specs.Round.{IsSolvedRequest}
 use Rattle.keep_back.proofs.KeepLemmas.{pass-back, pass-further, pass-more, refused-then, same-request}
 use Rattle.keep_back.proofs.back.pass.Goals as goal
 use Rattle.keep_back.proofs.back.pass.Goals.{then-not-stays_at+in_ok-solved+in-Some, then-not-stays_at+in_ok-solved+in_default, else-not-stays_at}
-use Rattle.request_lines.specs.Spelled.{stays_at}
 
 pub returns-in_err-solved-clause-refused : goal.returns-in_err-solved-clause-refused
 returns-in_err-solved-clause-refused g c = λ texts read.

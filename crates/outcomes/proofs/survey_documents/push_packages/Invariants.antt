@@ -7,4 +7,4 @@ use Rattle.serde_json.specs.View.{view}
 
 abbrev pub invariant-loop-answer : goal.invariant-loop-answer
 invariant-loop-answer l =
-    map view l.objects.items ≡ map view l.fn.objects.items ++ flat_map package_objects (take l.answer-index l.answers)
+    map view l.objects.items ≡ map view l.fn.objects.items ++ flat_map (package_objects l.tells) (take l.answer-index l.answers)

@@ -2,7 +2,6 @@
 use Rattle.cli.specs.Batch.{IsReplyToLine, question_bytes}
 use Rattle.cli.specs.Heard.{IsReplyOver}
 use Rattle.conversation.proofs.ConversationLemmas.{answered_so}
-use Rattle.inputs.proofs.ReadByLemmas.{none_read, then_wanting}
 use Rattle.inputs.specs.Texts.{texts_of}
 use Rattle.conversation.specs.Stream.{written_on}
 use Rattle.text_lines.specs.Lines.{left_of}
@@ -20,7 +19,3 @@ returns-clause-said g c = λ at known read.
 pub returns-clause-kept : goal.returns-clause-kept
 returns-clause-kept g c =
     let answered = c.answer_all.ensures.answered in ((answered.0, answered.2), c.answer_all.ensures.held)
-
-pub returns-in_err-idle-clause-read : goal.returns-in_err-idle-clause-read
-returns-in_err-idle-clause-read g c = then_wanting c.from_residual-in_err-idle.result
-    (none_read {value = c.args.self.now.limit} g.met.S.Shelf.holds_still) c.from_residual-in_err-idle.ensures.1
