@@ -97,33 +97,24 @@ fn held(alloc: Global, part: WholeText, bytes: Vec<u8>) -> Result<Vec<u8>, ReadE
     }
 }
 
-// Remembers the text of this part, if it's the request's and that is wanted. Memory alone can fail.
-fn note_text(
-    alloc: Global,
-    context: &mut Option<RefusalContext>,
-    part: WholeText,
-    text: &[u8],
-) -> Result<(), ReadError>
-    ensures { IfErr result (λ e. e ≡ ReadError.OutOfMemory) }
-{
-    if let (Some(context), WholeText::Request) = (context, part) {
-        context.request = copy_text(alloc, text)?;
+// Remembers the text of this part, if it's the request's and that is wanted. Where memory is refused for it, nothing is remembered any more.
+fn note_text(alloc: Global, context: &mut Option<RefusalContext>, part: WholeText, text: &[u8]) {
+    if let (Some(known), WholeText::Request) = (&mut *context, part) {
+        match text.to_vec(alloc) {
+            Ok(copy) => known.request = copy,
+            Err(AllocError) => *context = None,
+        }
     }
-    Ok(())
 }
 
-// Remembers the file of an index, if that is wanted. Memory alone can fail.
-fn note_index(
-    alloc: Global,
-    context: &mut Option<RefusalContext>,
-    file: &[u8],
-) -> Result<(), ReadError>
-    ensures { IfErr result (λ e. e ≡ ReadError.OutOfMemory) }
-{
-    if let Some(context) = context {
-        context.index = copy_text(alloc, file)?;
+// Remembers the file of an index, if that is wanted. Where memory is refused for it, nothing is remembered any more.
+fn note_index(alloc: Global, context: &mut Option<RefusalContext>, file: &[u8]) {
+    if let Some(known) = &mut *context {
+        match file.to_vec(alloc) {
+            Ok(copy) => known.index = copy,
+            Err(AllocError) => *context = None,
+        }
     }
-    Ok(())
 }
 
 // The text that is there.
@@ -196,7 +187,7 @@ pub struct HostShelf<'h, 's, 'a, H> {
     pub host: &'h mut H,
     /// The paths.
     pub paths: &'a Paths<'a>,
-    /// What is remembered of the texts, where sentences are wanted.
+    /// What is remembered of the texts, where sentences are wanted and memory isn't refused for it.
     pub context: &'s mut Option<RefusalContext>,
     /// What was read of them.
     pub openings: Openings,
@@ -219,7 +210,7 @@ impl<'h, 's, 'a, H: Host> Shelf for HostShelf<'h, 's, 'a, H> {
     fn read(&mut self, alloc: Global, part: WholeText) -> Result<Vec<u8>, ReadError> {
         let turn = self.openings.of_part(part);
         let text = read_at(alloc, &mut *self.host, self.paths.of(part), turn)?;
-        note_text(alloc, &mut *self.context, part, text.as_slice())?;
+        note_text(alloc, &mut *self.context, part, text.as_slice());
         held(alloc, part, text)
     }
 
@@ -234,7 +225,7 @@ impl<'h, 's, 'a, H: Host> Shelf for HostShelf<'h, 's, 'a, H> {
     }
 
     fn open(&mut self, alloc: Global, number: usize, file: &[u8]) -> Result<H::Text, ReadError> {
-        note_index(alloc, &mut *self.context, file)?;
+        note_index(alloc, &mut *self.context, file);
         let turn = self.openings.of_index(number);
         self.host.open(alloc, file, turn)
     }
