@@ -10,8 +10,9 @@ import common
 from common import Failure
 
 # A source of packages: the URI of its archive, its suite, its components, of which a flat archive has none, and whether it is asked for
-# packages of the architecture; those for all architectures it's asked for in any case.
-Source = collections.namedtuple("Source", "uri suite components has_arch")
+# packages of the architecture; those for all architectures it's asked for in any case; and by which keys it is signed, as its field
+# Signed-By says it.
+Source = collections.namedtuple("Source", "uri suite components has_arch signed_by")
 # How a list is read that has this at the end of its name.
 OPENED = {"": open, ".gz": gzip.open, ".xz": lzma.open, ".lzma": lzma.open, ".bz2": bz2.open}
 ENDINGS = (*OPENED, ".lz4", ".zst")
@@ -39,17 +40,18 @@ def of_lines(text, arch):
             options, uri, suite, components = parts.groups()
             by_name = dict(re.findall(r"(\S+?)=(\S*)", options or ""))
             named, removed = (list(filter(None, by_name.get(key, "").split(","))) for key in ("arch", "arch-"))
-            yield Source(uri, suite, components.split(), is_for(arch, named, removed))
+            yield Source(uri, suite, components.split(), is_for(arch, named, removed), by_name.get("signed-by", ""))
 
 
-def of_stanzas(text, arch):
+def of_stanzas(text, arch, place):
     """Yields the sources of a file of stanzas."""
-    for stanza in common.stanzas_of(text.splitlines(True)):
-        fields = {name.lower(): value.split() for name, value in stanza.items()}
-        if "deb" in fields.get("types", ()) and "".join(fields.get("enabled", ())).lower() not in NO:
-            has_arch = is_for(arch, fields.get("architectures"), fields.get("architectures-remove", ()))
-            for uri in fields.get("uris", ()):
-                yield from (Source(uri, suite, fields.get("components", []), has_arch) for suite in fields.get("suites", ()))
+    for stanza in common.stanzas_of(text.splitlines(True), place):
+        fields = {name: value.split() for name, value in stanza.items()}
+        if "deb" in fields.get("Types", ()) and "".join(fields.get("Enabled", ())).lower() not in NO:
+            has_arch = is_for(arch, fields.get("Architectures"), fields.get("Architectures-Remove", ()))
+            for uri in fields.get("URIs", ()):
+                yield from (Source(uri, suite, fields.get("Components", []), has_arch, stanza.get("Signed-By", ""))
+                            for suite in fields.get("Suites", ()))
 
 
 def sources_of(machine, arch):
@@ -59,7 +61,7 @@ def sources_of(machine, arch):
     files += sorted(it for it in parts.iterdir() if FILE.fullmatch(it.name) and it.is_file()) if parts.is_dir() else []
     for file in files:
         text = file.read_text(encoding="utf-8", errors="replace")
-        for source in (of_stanzas if file.suffix == ".sources" else of_lines)(text, arch):
+        for source in of_stanzas(text, arch, file) if file.suffix == ".sources" else of_lines(text, arch):
             yield source._replace(uri=source.uri.rstrip("/") + "/", suite=source.suite.replace("$(ARCH)", arch))
 
 

@@ -57,7 +57,7 @@ class Asking:
         """The files that are read: those that the options name, and the indices."""
         named = [value for name, value in self.options if name in ("--status", "--sources", "--preferences")]
         sources = self.value("--sources")
-        places = [keys["File"] for keys in common.stanzas_in(sources) if "File" in keys] if sources and os.path.isfile(sources) else []
+        places = [keys["File"] for keys in common.indices_in(sources)] if sources and os.path.isfile(sources) else []
         return [*named, *places]
 
     def without_refutations(self):

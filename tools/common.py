@@ -44,6 +44,18 @@ PLACES = {"Dir::State::lists/d": "var/lib/apt/lists/", "Dir::State::status/f": "
 # A sentence of the program on an input that changes no answer: a record of the preferences, or an index.
 UNMATCHED = re.compile(r"^(?:Record \d+ of the preferences matches nothing|Index \d+ adds no version): .*\n", re.MULTILINE)
 NAME = re.compile(r"[A-Za-z0-9][A-Za-z0-9+.-]*")
+# The name of a field (docs/FORMATS.md, section 1), and those that are asked for, by their letters without capitals.
+FIELD_NAME = re.compile(r"(?![#-])[!-9;-~]+")
+SPELLED = {it.lower(): it for it in (
+    *RELATIONS, "Package", "Version", "Architecture", "Status", "Config-Version", "Essential", "Protected", "Priority", "Source",
+    "Recommends", "Maintainer", "Filename", "Size", "Installed-Size", "SHA256", "SHA512", "Triggers-Pending", "Triggers-Awaited",
+    "File", "Archive", "Suite", "Codename", "Component", "Origin", "Label", "Host", "Date", "URI", "Distribution", "Snapshot",
+    "NotAutomatic", "ButAutomaticUpgrades", "Index-SHA256", "Pin", "Pin-Priority", "Explanation",
+    "Lock", "Status-SHA256", "Target", "Preferences", "Request", "Plan", "Index",
+    "Types", "URIs", "Suites", "Components", "Architectures", "Architectures-Remove", "Enabled", "Signed-By")}
+# What separates stanzas: lines that are empty or hold nothing but spaces and tabs. And the name of a stanza's package.
+SEPARATOR = re.compile(rb"\n(?:[ \t]*\n)+")
+PACKAGE = re.compile(rb"^package:[ \t]*([^ \t\r\n]*)", re.IGNORECASE | re.MULTILINE)
 ATOM = re.compile(r"\s*([A-Za-z0-9][A-Za-z0-9+.-]*)(?::([A-Za-z0-9-]+))?\s*(?:\(\s*(<<|<=|=|>=|>>|<|>)\s*([^\s)]+)\s*\))?\s*")
 Atom = collections.namedtuple("Atom", "name qualifier operator version")
 
@@ -184,53 +196,69 @@ def native_architecture():
     return os.environ.get("ARCH") or said_by(["dpkg", "--print-architecture"]).strip()
 
 
-# Control text
+# Control text: this is the one reader of it
+
+
+@functools.lru_cache(maxsize=4096)
+def spelled(name):
+    """The name of a field as it is asked for: any other case of its letters is the same name. None where that is no name."""
+    return SPELLED.get(name.lower(), name) if FIELD_NAME.fullmatch(name) else None
 
 
 def stanzas_in(path):
     """Yields the stanzas of a control file, each as its fields, whose values keep their newlines."""
     with open(path, encoding="utf-8", errors="surrogateescape", newline="\n") as lines:
-        yield from stanzas_of(lines)
+        yield from stanzas_of(lines, path)
 
 
-def stanzas_of(lines):
-    """Yields the stanzas of these lines. The value of a name that is there twice is the first one."""
+def stanzas_of(lines, place="a text"):
+    """Yields the stanzas of these lines, without comments. What can't be read ends the tool, with the line."""
     fields, name = {}, None
-    for line in lines:
-        if line[0] in " \t" and line.strip():
-            if name:
-                fields[name] += "\n" + line.rstrip("\n").rstrip()
-        elif not line.strip():
+    for number, line in enumerate(lines, 1):
+        if line[0] in " \t" and line.strip(" \t\n"):
+            if name is None:
+                raise Failure(f"{place}: line {number} continues no field")
+            fields[name] += "\n" + line.rstrip("\n").rstrip(" \t")
+        elif not line.strip(" \t\n"):
             if fields:
                 yield fields
             fields, name = {}, None
         elif not line.startswith("#"):
-            key, _, value = line.partition(":")
-            name = key if key not in fields else None
-            fields.setdefault(key, value.strip())
+            key, colon, value = line.partition(":")
+            name = spelled(key)
+            if not colon or not name:
+                raise Failure(f"{place}: line {number} is no field: {line.strip()[:80]}")
+            if name in fields and name != "Explanation":
+                raise Failure(f"{place}: line {number} has the field {name} again")
+            fields.setdefault(name, value.strip(" \t\n"))
     if fields:
         yield fields
 
 
+def texts_in(path):
+    """The texts of the stanzas of a control file, as their bytes without the newline behind them."""
+    return [text for text in SEPARATOR.split(b"\n\n" + pathlib.Path(path).read_bytes() + b"\n\n") if text]
+
+
 def stanzas_named(path, names):
     """Yields the stanzas of these names in an index, in their order, without reading the others."""
-    data = pathlib.Path(path).read_bytes()
-    if re.search(rb"\n[ \t]+\n", data):
-        yield from (fields for fields in stanzas_in(path) if fields.get("Package") in names)
-        return
-    wanted = {name.encode("utf-8", "surrogateescape") for name in names}
-    yield from (fields_of(stanza) for stanza in data.split(b"\n\n") if name_in(stanza) in wanted)
+    yield from (fields_of(text, path) for text in texts_in(path) if name_in(text) in names)
 
 
-def name_in(stanza):
-    """The name of the package of a stanza, of its bytes, without reading the other fields."""
-    start = len(b"Package:") if stanza.startswith(b"Package:") else stanza.find(b"\nPackage:") + len(b"\nPackage:")
-    return stanza[start:].partition(b"\n")[0].strip()
+def name_in(text):
+    """The name of the package of a stanza, of its bytes, without reading the other fields; None where it has none."""
+    found = PACKAGE.search(text)
+    return found and found.group(1).decode("utf-8", "surrogateescape")
 
 
-def fields_of(stanza):
+def fields_of(text, place="a stanza"):
     """The fields of a stanza, of its bytes."""
-    return next(stanzas_of(f"{line}\n" for line in stanza.decode("utf-8", "surrogateescape").split("\n") if line), {})
+    return next(stanzas_of((f"{line}\n" for line in text.decode("utf-8", "surrogateescape").split("\n") if line), place), {})
+
+
+def indices_in(path):
+    """The stanzas of a sources file that name an index; a path may begin on the line below `File`."""
+    return [{**keys, "File": keys["File"].strip()} for keys in stanzas_in(path) if "File" in keys]
 
 
 def names_without(arch, value):
@@ -246,15 +274,33 @@ def text_of(fields):
 
 def write_text(path, text):
     """Writes a file whole, and then puts it in its place."""
+    write_bytes(path, text.encode("utf-8", "surrogateescape"))
+
+
+def write_bytes(path, data):
+    """The same of bytes. No link is followed that stands there, nor one that has the name of the new file."""
     path = pathlib.Path(path)
     new = path.with_name(f".{path.name}.new")
-    new.write_bytes(text.encode("utf-8", "surrogateescape"))
+    with contextlib.suppress(FileNotFoundError):
+        new.unlink()
+    with open(new, "wb", opener=new_file) as file:
+        file.write(data)
     os.replace(new, path)
+
+
+def new_file(path, flags, mode=0o666, folder=None):
+    """Opens a file that isn't there yet, for `open`."""
+    return os.open(path, flags | os.O_CREAT | os.O_EXCL | os.O_NOFOLLOW, mode, dir_fd=folder)
 
 
 def sha256_of(path):
     """The SHA256 of a file."""
-    found = hashlib.sha256()
+    return sum_of(path, "SHA256")
+
+
+def sum_of(path, kind):
+    """A sum of a file: SHA256 or SHA512."""
+    found = hashlib.new(kind)
     with open(path, "rb") as file:
         for block in iter(lambda: file.read(1 << 20), b""):
             found.update(block)
@@ -414,7 +460,7 @@ class Inputs:
 
     def sources(self):
         """The stanzas of the sources file."""
-        return [stanza for stanza in stanzas_in(self.folder / "sources") if "File" in stanza]
+        return indices_in(self.folder / "sources")
 
     def indices(self):
         """The paths of the indices. One that isn't whole is taken from the folder, as the program is run there."""
@@ -447,8 +493,8 @@ class Inputs:
         """The stanzas of the indices that provide a name, as their Provides says."""
         text = name.encode("utf-8", "surrogateescape")
         for path in self.indices():
-            for stanza in path.read_bytes().split(b"\n\n"):
-                fields = fields_of(stanza) if text in stanza and b"\nProvides:" in stanza else {}
+            for stanza in texts_in(path):
+                fields = fields_of(stanza, path) if text in stanza else {}
                 if fields.get("Architecture") in ("all", self.arch) and any(atom.name == name for atom in provided_by(fields)):
                     yield fields
 

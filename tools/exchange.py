@@ -2,44 +2,37 @@
 this can change whether they can be installed."""
 import collections
 import copy
-import pathlib
 import re
 
 import common
 from common import Failure
 
-# What separates stanzas (docs/FORMATS.md, section 1): lines that are empty or hold nothing but spaces and tabs.
-SEPARATOR = re.compile(rb"\n(?:[ \t]*\n)+")
-NAME = re.compile(rb"^package:[ \t]*([^ \t\r\n]*)", re.IGNORECASE | re.MULTILINE)
 VERSION = re.compile(r"(?:[0-9]+:)?[A-Za-z0-9.+~:-]+")
 SOURCE = re.compile(r"([A-Za-z0-9][A-Za-z0-9+.-]*)\s*(?:\(\s*(.*?)\s*\))?", re.DOTALL)
 # By which fields a package is essential (docs/FORMATS.md, section 6).
 MARKS = ("Essential", "Protected")
 # The fields of a stanza that count here.
 COUNTING = ("Package", "Version", "Architecture", "Source", "Pre-Depends", "Depends", "Provides", *MARKS)
+NO_INDEX = "so this is no index (one that is compressed is unpacked first)"
 # A stanza of an index: its bytes, without the newline behind them, and these fields.
 Stanza = collections.namedtuple("Stanza", "text fields")
 
 
 def stanzas_in(path, names=None):
     """The stanzas of an index, in their order; with names those of these names alone."""
-    data = b"\n\n" + pathlib.Path(path).read_bytes() + b"\n\n"
-    texts = [text for text in SEPARATOR.split(data) if text]
-    return [Stanza(text, fields_in(text, number, path)) for number, text in enumerate(texts, 1) if names is None or name_in(text) in names]
-
-
-def name_in(text):
-    """The name of the package of a stanza, without reading the other fields."""
-    found = NAME.search(text)
-    return found and found.group(1).decode("utf-8", "surrogateescape")
+    return [Stanza(text, fields_in(text, number, path)) for number, text in enumerate(common.texts_in(path), 1)
+            if names is None or common.name_in(text) in names]
 
 
 def fields_in(text, number, path):
-    """The fields that count of a stanza, which has to be one of a package. Their names are compared without regard to case."""
-    fields = {name.title(): value for name, value in common.fields_of(text).items() if name.title() in COUNTING}
+    """The fields that count of a stanza, which has to be one of a package."""
+    try:
+        fields = {name: value for name, value in common.fields_of(text, f"{path}: stanza {number}").items() if name in COUNTING}
+    except Failure as failure:
+        raise Failure(f"{failure}, {NO_INDEX}") from None
     missing = [name for name in ("Package", "Version", "Architecture") if not fields.get(name)]
     if missing:
-        raise Failure(f"{path}: stanza {number} has no {missing[0]}, so this is no index (one that is compressed is unpacked first)")
+        raise Failure(f"{path}: stanza {number} has no {missing[0]}, {NO_INDEX}")
     if not VERSION.fullmatch(fields["Version"]):
         raise Failure(f"{path}: stanza {number}, of {fields['Package']}, has no version but `{fields['Version']}`")
     return fields

@@ -53,7 +53,7 @@ class Check:
         self.options, self.changed, self.output, self.known = options, changed, output, known or Known()
         self.asking, self.arch = options.asking, options.asking.needed("--arch")
         self.status = common.Database(self.asking.value("--status") or NO_STATUS)
-        self.sources = list(common.stanzas_in(self.asking.needed("--sources")))
+        self.sources = common.indices_in(self.asking.needed("--sources"))
         others = [path for path in self.places() if not self.is_changed(path)]
         if len(others) == len(self.places()):
             raise Failure(f"{self.asking.value('--sources')}: names no index {options.index}")
@@ -66,7 +66,7 @@ class Check:
         return [it.fields for it in stanzas if it.fields["Architecture"] in ("all", self.arch)]
 
     def places(self):
-        return [keys["File"] for keys in self.sources if "File" in keys]
+        return [keys["File"] for keys in self.sources]
 
     def is_changed(self, path):
         return os.path.samefile(path, self.options.index)
@@ -127,7 +127,7 @@ class Check:
     def sources_after(self):
         """The stanzas of the sources file, with the new index in the place of the old one."""
         changed = {"File": str(self.output)}
-        return [{**keys, **changed} if "File" in keys and self.is_changed(keys["File"]) else keys for keys in self.sources]
+        return [{**keys, **changed} if self.is_changed(keys["File"]) else keys for keys in self.sources]
 
     def answer(self, room):
         """What differs, why it is so, and what would have to come along; a folder has the files that are asked with."""

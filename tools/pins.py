@@ -38,7 +38,7 @@ class Lists:
 
     def add(self, found, fields, keys):
         """Puts the version of a stanza behind the others of its name, if it is for the architecture."""
-        if "Version" in fields and fields.get("Architecture") in (self.arch, "all"):
+        if "Package" in fields and "Version" in fields and fields.get("Architecture") in (self.arch, "all"):
             source = fields.get("Source", fields["Package"]).split(" ")[0]
             found[fields["Package"]].append(Version(fields["Version"], source, keys))
 

@@ -84,9 +84,9 @@ class Offered:
         self.standing, self.held, self.versions = {}, set(), collections.defaultdict(dict)
         for fields in common.stanzas_in(inputs.path("status")):
             self.add_standing(fields)
-        for keys in common.stanzas_in(inputs.path("sources")):
+        for keys in inputs.sources():
             for fields in common.stanzas_in(inputs.folder / keys["File"]):
-                if fields.get("Architecture") in ("all", inputs.arch):
+                if fields.get("Architecture") in ("all", inputs.arch) and "Package" in fields and "Version" in fields:
                     self.add(fields, keys)
 
     def add(self, fields, keys):

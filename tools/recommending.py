@@ -9,12 +9,11 @@ import re
 
 import changes
 import common
-import exchange
 
 PRIORITIES = ("required", "important", "standard", "optional", "extra")
 CLOSING = "This is about "
 # The field Provides of a stanza, and the name of each of its items.
-PROVIDES = re.compile(rb"^Provides:(.*(?:\n[ \t].*)*)", re.MULTILINE)
+PROVIDES = re.compile(rb"^provides:(.*(?:\n[ \t].*)*)", re.IGNORECASE | re.MULTILINE)
 PROVIDED = re.compile(rb"(?:^|,)\s*([A-Za-z0-9][A-Za-z0-9+.-]*)")
 # What may be asked for so that a clause is met: a name, lines of a request with it, and the stanza that is hoped for.
 Choice = collections.namedtuple("Choice", "name lines fields")
@@ -41,14 +40,14 @@ class World:
     def __init__(self, arch, status, sources, folder):
         self.arch, self.before = arch, common.Database(status)
         self.texts, self.known = collections.defaultdict(list), {}
-        for keys in common.stanzas_in(sources):
-            for text in exchange.SEPARATOR.split(pathlib.Path(folder, keys["File"]).read_bytes()) if "File" in keys else ():
+        for keys in common.indices_in(sources):
+            for text in common.texts_in(pathlib.Path(folder, keys["File"])):
                 self.texts[common.name_in(text)].append(text)
 
     def of(self, name):
         """The stanzas of a name that count for the architecture, in their order."""
         if name not in self.known:
-            found = map(common.fields_of, self.texts.get(name.encode("utf-8", "surrogateescape"), ()))
+            found = map(common.fields_of, self.texts.get(name, ()))
             self.known[name] = [it for it in found if it.get("Architecture") in ("all", self.arch) and "Version" in it]
         return self.known[name]
 
@@ -62,9 +61,9 @@ class World:
         """The names of the packages that provide a name in some version, by that name."""
         found = collections.defaultdict(set)
         for package, texts in self.texts.items():
-            for value in (it for text in texts if b"\nProvides:" in text for it in PROVIDES.findall(text)):
+            for value in (it for text in texts if b"provides:" in text.lower() for it in PROVIDES.findall(text)):
                 for name in PROVIDED.findall(value):
-                    found[name.decode("ascii")].add(package.decode("utf-8", "surrogateescape"))
+                    found[name.decode("ascii")].add(package)
         return found
 
     def fitting(self, name, atom):

@@ -53,7 +53,7 @@ class Suite:
         self.known.update({name: [] for name in wanted})
         for keys in self.inputs.sources() if wanted else ():
             for fields in common.stanzas_named(self.inputs.folder / keys["File"], wanted) if is_of(keys, self.suite) else ():
-                if fields.get("Architecture") in ("all", self.inputs.arch):
+                if fields.get("Architecture") in ("all", self.inputs.arch) and "Version" in fields:
                     self.known[fields["Package"]].append(fields)
 
     def best(self, atom):
