@@ -11,6 +11,9 @@ from common import Failure
 # The ways that apt's program is given a URI by, and what it says of a file that isn't there (any more).
 SCHEMES = ("http", "https", "ftp", "file", "copy")
 GONE = re.compile(r"^E: Failed to fetch (\S+) +(?:404|410|File not found)", re.MULTILINE)
+VERSION = re.compile(r"[A-Za-z0-9.+~:-]+")
+# The sums of a file that are compared, the first of them that a stanza has, and how many digits each has. Others are too weak.
+SUMS = {"SHA256": 64, "SHA512": 128}
 # The archive on snapshot.debian.org of an index with this label, where its origin is Debian.
 SNAPSHOTS = {"Debian": "debian", "Debian Backports": "debian", "Debian-Security": "debian-security"}
 
@@ -19,6 +22,16 @@ def uri_of(fields, keys, field="URI"):
     """The URI of the file of a package: that of its archive, as this field of the sources file has it, with the file's name; or None."""
     uri, name = keys.get(field, ""), fields.get("Filename")
     return uri.rstrip("/") + "/" + name.removeprefix("./") if name and uri.partition(":")[0] in SCHEMES else None
+
+
+def sum_of(fields):
+    """The kind and the value of the sum with which the file of a package is compared. A package without one isn't taken."""
+    kind = next((kind for kind in SUMS if kind in fields), None)
+    value = fields[kind].lower() if kind else ""
+    if not kind or not re.fullmatch(f"[0-9a-f]{{{SUMS[kind]}}}", value):
+        why = f"its {kind} is none" if kind else f"it has no {' and no '.join(SUMS)}"
+        raise Failure(f"{fields['Package']} {fields['Version']}: by its index nothing says which file is this package: {why}")
+    return kind, value
 
 
 def stamp_of(date):
@@ -37,12 +50,17 @@ def snapshot_of(keys):
 
 
 class Debs:
-    """The .deb files of the packages that a plan unpacks, each of which has its stanza, and that of its index in the sources."""
+    """The .deb files of the packages that a plan unpacks, each of which has its stanza, and that of its index in the sources. By the
+    stanza each has the sum of its file."""
 
     def __init__(self, folder, located):
         self.folder = pathlib.Path(folder).resolve()
         self.offered = {pair: fields for pair, (fields, _) in located.items()}
         self.keys = {pair: keys for pair, (_, keys) in located.items()}
+        strange = next((pair for pair in self.offered if not common.NAME.fullmatch(pair[0]) or not VERSION.fullmatch(pair[1])), None)
+        if strange:
+            raise Failure(f"{' '.join(strange)} is no name and no version of a package")
+        self.sums = {pair: sum_of(fields) for pair, fields in self.offered.items()}
 
     def names(self, pair):
         """The names that the file of a package may have: apt's, and that of the archive."""
@@ -71,11 +89,10 @@ class Debs:
             self.get_by_apt(by_apt[first:first + 200])
 
     def fetch(self, pairs, field):
-        """Gets the files of these packages from where this field of the sources says that they are, each with the SHA256 of its stanza."""
+        """Gets the files of these packages from where this field of the sources says that they are, each with its sum."""
         words = [common.HELPER, "download-file", "-o", "APT::Sandbox::User=root"]
         for pair in pairs:
-            words += [uri_of(self.offered[pair], self.keys[pair], field), str(self.folder / self.names(pair)[0])]
-            words += [f"SHA256:{self.offered[pair]['SHA256']}"] if "SHA256" in self.offered[pair] else []
+            words += [uri_of(self.offered[pair], self.keys[pair], field), str(self.folder / self.names(pair)[0]), ":".join(self.sums[pair])]
         return common.run_of(words)
 
     def get_by_uri(self, pairs):
@@ -119,11 +136,10 @@ class Debs:
             raise Failure(f"not all packages were downloaded:{why}\n{common.last_words(run)}")
 
     def verify(self):
-        """Compares each file with the SHA256 of its stanza."""
+        """Compares each file with the sum of its stanza."""
         missing = self.missing()
         if missing:
             raise Failure(f"{self.folder} has no file of {' '.join(missing[0])}, and {len(missing)} are missing in all")
-        for pair, fields in self.offered.items():
-            wanted = fields.get("SHA256")
-            if wanted and common.sha256_of(self.file(pair)) != wanted:
-                raise Failure(f"{self.file(pair)} isn't the file that the index names: its SHA256 is another one")
+        for pair, (kind, value) in self.sums.items():
+            if common.sum_of(self.file(pair), kind) != value:
+                raise Failure(f"{self.file(pair)} isn't the file of {' '.join(pair)} that the index names: its {kind} is another one")
