@@ -68,7 +68,7 @@ def chosen(clauses, taken):
                 return found
     return None if clauses else taken
 names = words[words.index("--") + 1:] if "--" in words else []
-stanzas = [it.fields for keys in common.stanzas_in(value("--sources")) for it in exchange.stanzas_in(keys["File"])]
+stanzas = [it.fields for keys in common.indices_in(value("--sources")) for it in exchange.stanzas_in(keys["File"])]
 if sys.argv[1] == "batch":
     for line in sys.stdin:
         asked = json.loads(line)
@@ -208,7 +208,7 @@ TEXTS = {
     "next-sources": "File: next\nSuite: testing\n", "both-sources": "File: index\n\nFile: other\n",
     "far": "Package: top\nVersion: 1\nArchitecture: all\nDepends: app\n", "far-sources": "File: far\n\nFile: index\n",
     "changing-sources": "File: changing-index\n", "changing-index": INDEX, "again": INDEX,
-    "again-sources": "# testing\nFile: again\nSuite: testing\n", "named-sources": "File: index\nSuite: stable\n",
+    "below-sources": "File:\n index\nSuite: testing\n", "again-sources": "# testing\nFile: again\nSuite: testing\n", "named-sources": "File: index\nSuite: stable\n",
     "replaced-1": "checked 3, broken 0\n", "replaced-1.inputs": "shard\t1/2\noutput\tx\n",
     "strange-1": "checked 3, broken 0\n", "strange-1.inputs": "{}\n", "bare-2": WHOLE.replace("checked 6", "checked 3"),
     "other-sources": "File: other\n", "newer": f"{APP}\n{REST}",
@@ -290,7 +290,7 @@ CALLS = [
      "mended b 1\ngone a 1\nstill broken 1\n", ""),
     ("compare two two", 0, "still broken 1\n", ""),
     ("compare based small", 0, "mended base\nstill broken 0\n", ""),
-    ("compare old new --old-index packed", 1, "", "packed: stanza 1 has no Package, ..\n"),
+    ("compare old new --old-index packed", 1, "", "packed: stanza 1: line 1 is no field: .., so this is no index ..\n"),
     ("compare small two --refutations bad --", 64, "", "--arch is missing ..\n"),
     (f"compare small two --refutations bad -- {ASKING}", 1, "newly broken a 1\n  bad/a_1.request: is missing, ..\nstill broken 0\n", ""),
     (f"compare clean whole --refutations kept -- {ASKING}", 1, "newly broken other 1\n  ..nowhere..\nnewly broken tool-data 1:1\n"
@@ -315,7 +315,7 @@ CALLS = [
     ("migrate --index index --from other --output new-next lib -- --arch amd64 --sources next-sources", 1, "",
      "next-sources: names no index index\n"),
     (f"{MIGRATE} nobody", 1, "", "index: has no package of the source nobody, nor has other\n"),
-    ("migrate --index other --from packed --output next lib", 1, "", "packed: stanza 1 has no Package, ..\n"),
+    ("migrate --index other --from packed --output next lib", 1, "", "packed: stanza 1: line 1 is no field: .., so this is no index ..\n"),
     ("migrate --index index --from other --output index lib", 64, "", "index: is read, so it can't be the output\n"),
     (f"run {ASKING} --report report", 1, WHOLE, ""),
     (f"run {ASKING} --report report", 1, "", "report: isn't empty\n"),
@@ -329,15 +329,18 @@ CALLS = [
     (f"verify broken -- {ASKING}", 1, "", "broken/indices: line 1 doesn't have ..\n"),
     (f"verify nowhere -- {ASKING}", 1, "", "nowhere: No such file or directory\n"),
     (f"verify . -- {ASKING}", 1, "bad: no line ..", "broken/indices: line 1 doesn't have ..\n"),
+    ("run --arch amd64 --sources below-sources other --report below", 1, "broken other 1\nchecked 1, broken 1\n", ""),
+    ("verify below -- --arch amd64 --sources below-sources", 0, "below/other_1: yes\n", ""),
+    ("verify below -- --arch amd64 --sources named-sources", 0, "below/other_1: yes\n", ""),
     (f"run {ASKING} tool --report none", 0, "checked 1, broken 0\n", ""),
     (f"verify none -- {ASKING}", 0, "", ""),
 ]
 # What these calls leave.
-WRITTEN = {"next": NEXT, "kept/other_1.request": "install other (= 1)\n", "report/other_1/request": "install other (= 1)\n",
+WRITTEN = {"next": NEXT, "below/indices": INDICES, "kept/other_1.request": "install other (= 1)\n", "report/other_1/request": "install other (= 1)\n",
            "report/other_1/refutation": "..", "report/other_1/sentences": "..nowhere..", "report/other_1/indices": INDICES,
            "report/other_1/relations": "depends\tnowhere\tother 1\n", "report/indices": INDICES, "report/when": "2..Z\n",
            "report/survey": WHOLE, "none/survey": "checked 1, broken 0\n",
-           "report/tool-data_1:1/stanza": "Package: tool-data\nVersion: 1:1\nArchitecture: all\nSource: tool (1:1)\nDepends: data\n"}
+           "report/tool-data_1:1/stanza.txt": "Package: tool-data\nVersion: 1:1\nArchitecture: all\nSource: tool (1:1)\nDepends: data\n"}
 
 
 # The merging of all small lists

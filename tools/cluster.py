@@ -2,13 +2,16 @@
 python3-distributed, but none of these tools. It has the program and the inputs at the same path as this machine, or is handed them: each
 once, into a folder of its own, in which it is called by its SHA256. The files of refutations come back with the answer, so the folder
 that they are written into is one of this machine."""
+import base64
 import concurrent.futures
 import contextlib
 import fcntl
 import hashlib
+import json
 import logging
 import os
 import pathlib
+import re
 import shutil
 import socket
 import subprocess
@@ -31,13 +34,15 @@ LOOKING, COMING = 1, 120
 ROOM, LOCK = "debplan", "debplan.lock"
 # The seconds for which a worker keeps what it was handed and doesn't use.
 KEEPING = 86400
+# What the file of a refutation is called.
+WRITTEN = re.compile(r"[A-Za-z0-9][^/\0]*\.(?:request|refutation)", re.DOTALL)
 
 
 # What a worker does. These functions are sent to it, so they call one another and Python's own modules alone
 
 
 def run_program(head, options, folder, has_refutations, inputs, handed):
-    """Runs the program and returns, by names, its exit status, its two outputs, the files of refutations by name, the sums of the
+    """Runs the program and returns, as JSON, its exit status, its two outputs, the files of refutations by name, the sums of the
     inputs, which worker this is, and its address. The program and the inputs stand in a folder at the paths of these words; or, where
     something is handed over, in the worker's own folder, each called by its sum, the program first. Of that `lacking` has what isn't
     there. Without an exit status the program couldn't be run, and the second output says why."""
@@ -53,7 +58,12 @@ def run_program(head, options, folder, has_refutations, inputs, handed):
             found.update(ended_in(worker, room, words, has_refutations), sums=sums_of(inputs, folder))
     except OSError as error:
         found["said"] = said_of(error)
-    return found
+    return data_of(found)
+
+
+def data_of(found):
+    """What a worker hands back, as the bytes of a JSON text; bytes in it are in base 64."""
+    return json.dumps(found, default=lambda data: base64.b64encode(data).decode("ascii")).encode("ascii")
 
 
 def ended_in(worker, room, words, has_refutations):
@@ -119,9 +129,9 @@ def lacking_in(room, handed):
 def lacking(handed, dask_worker):
     """Which worker this is, and what it lacks; or why that can't be said."""
     try:
-        return name_of_worker(), lacking_in(room_of(dask_worker), handed), None
+        return data_of([name_of_worker(), lacking_in(room_of(dask_worker), handed), None])
     except OSError as error:
-        return name_of_worker(), [], said_of(error)
+        return data_of([name_of_worker(), [], said_of(error)])
 
 
 def kept(name, data, dask_worker):
@@ -137,8 +147,8 @@ def kept(name, data, dask_worker):
             new.chmod(0o700)
             new.replace(room / name)
     except (OSError, MemoryError) as error:
-        return said_of(error) if isinstance(error, OSError) else "has no memory for it"
-    return None
+        return data_of(said_of(error) if isinstance(error, OSError) else "has no memory for it")
+    return data_of(None)
 
 
 def sums_of(inputs, folder):
@@ -228,6 +238,14 @@ def one_line(error):
     return " ".join(str(error).split()) or type(error).__name__
 
 
+def read(answer, worker):
+    """What a worker has handed back, which has to be data."""
+    try:
+        return json.loads(answer)
+    except (TypeError, ValueError):
+        raise Failure(f"the worker {worker}: hands back what is no data", shards.LAST) from None
+
+
 class Workers:
     """The workers of a scheduler, whose inputs have to have the sums of those here, or are handed to them."""
 
@@ -271,9 +289,10 @@ class Workers:
     def answers(self, workers, function, *arguments):
         """What a function answers on each of these workers that answers, beside its tasks."""
         try:
-            return self.client.run(function, *arguments, workers=workers, on_error="ignore")
+            found = self.client.run(function, *arguments, workers=workers, on_error="ignore")
         except Exception as error:
             raise Failure(f"the scheduler {self.address}: {one_line(error)}", shards.LAST) from None
+        return {worker: read(answer, worker) for worker, answer in found.items()}
 
     def begin(self, words, folder):
         return Task(self, words, folder)
@@ -331,20 +350,25 @@ class Task:
         if others:
             raise Failure(f"{worker}: {others[0]} is another file than here", shards.LAST)
         self.keep(found["files"])
-        return shards.Ended(found["status"], shards.text_of(found["printed"]), found["said"])
+        return shards.Ended(found["status"], shards.text_of(base64.b64decode(found["printed"])), found["said"])
 
     def keep(self, files):
-        """Writes the files of refutations."""
+        """Writes the files of refutations into their folder."""
+        others = [name for name in files if not WRITTEN.fullmatch(name)]
+        if others or files and not self.folder:
+            raise Failure(f"the worker {self.found['worker']}: hands back a file {(others or list(files))[0]}", shards.LAST)
         try:
             for name, data in files.items():
-                pathlib.Path(self.folder, name).write_bytes(data)
+                common.write_bytes(pathlib.Path(self.folder, name), base64.b64decode(data))
         except OSError as error:
             raise Failure(f"{error.filename}: {error.strerror}", shards.LAST) from None
 
     def answer(self):
         """What the worker has returned."""
         try:
-            return self.future.result(timeout=COMING)
+            return read(self.future.result(timeout=COMING), self.workers.address)
+        except Failure:
+            raise
         except (Exception, concurrent.futures.CancelledError) as error:
             why = {"KilledWorker": "each worker that took a shard died", "CancelledError": "it is gone",
                    "TimeoutError": f"an answer didn't come within {COMING} seconds"}.get(type(error).__name__) or one_line(error)

@@ -19,12 +19,12 @@ DEAD, WRITTEN, FILES = 2, ("killed", "handed"), ("other_1.request", "other_1.ref
 RUN = f"run {ASKING} --scheduler ADDRESS"
 HANDED = f"{RUN} --hand-over"
 # Programs of sh: of eight shards the output of the second is cut short once; the worker that takes it is killed, once; the interpreter is
-# missing; installable runs in the folder of a worker alone, or leaves nothing there, once, or kills its worker there, once.
+# missing; all but what judges refutations here runs in the folder of a worker alone, or leaves nothing there, once, or kills its worker there, once.
 WRONG = {
     "cut-once-of-eight": '#!/bin/sh\nif [ "$3" = 2/8 ] && mkdir once; then echo broken b 1; exit 1; fi; exec ./debplan "$@"\n',
     "worker-killed": '#!/bin/sh\nif [ "$3" = 2/8 ] && mkdir once; then kill -9 $PPID; fi; exec ./debplan "$@"\n',
     "unfit": "#!/nowhere\n",
-    "far": '#!/bin/sh\ncase $1,$PWD in check-*|*/debplan) ;; *) exit 9;; esac\nexec ROOM/debplan "$@"\n',
+    "far": '#!/bin/sh\ncase $1,$PWD in batch,*|*/debplan) ;; *) exit 9;; esac\nexec ROOM/debplan "$@"\n',
     "forgetting": '#!/bin/sh\nROOM/debplan "$@"\nstatus=$?\nif mkdir ROOM/once; then rm ./*; fi\nexit $status\n',
     "far-killed": '#!/bin/sh\nif [ "$3" = 2/8 ] && mkdir ROOM/once; then kill -9 $PPID; fi\nexec ROOM/debplan "$@"\n',
 }

@@ -24,7 +24,7 @@ DATE = re.compile(r"([0-9]{4}-[0-9]{2}-[0-9]{2})T[0-9]{2}:[0-9]{2}:[0-9]{2}Z\n")
 INDEX, PLOT, PACKAGES = "index.html", "counts.svg", "packages"
 # What the files of a package are.
 WHAT = {"request": "what is asked for, in the words of debplan", "refutation": "the proof that there is no choice of packages for it",
-        "sentences": "the proof in sentences", "relations": "the relations at which it fails", "stanza": "the package, as its index has it",
+        "sentences": "the proof in sentences", "relations": "the relations at which it fails", reports.STANZA: "the package, as its index has it",
         "indices": "the indices that the proof is about"}
 File = collections.namedtuple("File", "name what")
 Group = collections.namedtuple("Group", "name packages")
@@ -77,7 +77,7 @@ class Package:
         self.sentences = read(folder / "sentences").splitlines()
         self.failing = [failing.Relation(*it.split("\t")) for it in read(folder / "relations").splitlines() if it.count("\t") == 2]
         self.relations = [failing.written(it, surveys.written(line)) for it in self.failing]
-        fields = {name.title(): value for name, value in common.fields_of(read(folder / "stanza").encode()).items()}
+        fields = common.fields_of(read(folder / reports.STANZA).encode(), folder / reports.STANZA)
         self.maintainer, self.source = fields.get("Maintainer"), " ".join(exchange.source_version_of(fields)) if fields else None
         self.files = [File(name, what) for name, what in WHAT.items() if (folder / name).is_file()]
 

@@ -49,6 +49,7 @@ WRITTEN = {
     "pages/of/runs/counts.svg": "<?xml..2026-01-01..2026-01-03..</svg>\n",
     f"{PACKAGE}/index.html": f"..<li>foo 1:1~rc2 depends on libfoo (&gt;= 3), but it isn&#39;t there.</li>..{ESCAPED.format('foo')}"
                              "..foo 1:1~rc2..2026-01-01, or longer..<a href=\"request\">..",
+    f"{PACKAGE}/stanza.txt": STANZA.format(name="foo", version="1:1~rc2"),
     f"{PACKAGE}/request": "install foo (= 1:1~rc2)\n",
     "of-report/packages/other_1/index.html": "..depends on nowhere..",
     "of-none/index.html": "..0 of 1 packages..",
@@ -88,7 +89,7 @@ def write_run(folder, day, broken):
         name, version = package.split()
         more = {"request": f"install {name} (= {version})\n", "refutation": "refutation 1\n", "indices": INDICES,
                 "sentences": f"{package} depends on {relation}, but it isn't there.\n", "relations": f"depends\t{relation}\t{package}\n",
-                "stanza": STANZA.format(name=name, version=version)}
+                "stanza.txt": STANZA.format(name=name, version=version)}
         texts |= {f"{name}_{version}/{kind}": text for kind, text in more.items()}
     for name, text in texts.items():
         (folder / name).parent.mkdir(parents=True, exist_ok=True)

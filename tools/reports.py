@@ -15,9 +15,10 @@ import premises
 import surveys
 from common import Failure
 
-# The files of the folder of a package: the first two are called so too behind the name and the version, as the program writes them.
-FILES = ("request", "refutation", "sentences", "relations", "stanza", "indices")
-INDICES = FILES[-1]
+# The files of the folder of a package: the first two are called so too behind the name and the version, as the program writes them. The
+# stanza begins with what a stranger has written: by its name no browser takes it for a page.
+FILES = ("request", "refutation", "sentences", "relations", "stanza.txt", "indices")
+STANZA, INDICES = FILES[-2:]
 # The files that stand beside these folders, the last of which is written last: where it is there, the report is whole.
 SURVEY, WHEN = "survey", "when"
 REFUSED = (3, 4, 5)
@@ -122,9 +123,7 @@ def premises_of(verdict):
 def indices_of(sources):
     """The indices that a sources file names."""
     found = []
-    for number, keys in enumerate(common.stanzas_in(sources), 1):
-        if "File" not in keys:
-            raise Failure(f"{sources}: stanza {number} has no File")
+    for keys in common.indices_in(sources):
         names = [" ".join(keys.get(name, "").split()) or "-" for name in ("Suite", "Codename")]
         found.append(Index(common.sha256_of(keys["File"]), *names, keys["File"]))
     return found
@@ -132,7 +131,7 @@ def indices_of(sources):
 
 def indices_in(path):
     """The indices of a folder of a report."""
-    found = [line.split("\t", 3) for line in read(path).splitlines()]
+    found = [line.split("\t", 3) for line in read(path).removesuffix("\n").split("\n")]
     for number, values in enumerate(found, 1):
         if len(values) != len(Index._fields):
             raise Failure(f"{path}: line {number} doesn't have the SHA256, the Suite, the Codename and the File of an index")
@@ -163,7 +162,7 @@ def write_report(asking, survey, when, folder, report):
         report.mkdir(parents=True, exist_ok=True)
         with Judge(asking) as judge:
             for line in broken:
-                stanza = {"stanza": stanzas[surveys.key_of(line)]} if line.version else {}
+                stanza = {STANZA: stanzas[surveys.key_of(line)]} if line.version else {}
                 files = pathlib.Path(folder, surveys.file_name(line))
                 refutation = with_indices(read(f"{files}.{FILES[1]}"), indices)
                 write_folder(report / files.name, files, judge.judged_of(folder, line), {FILES[1]: refutation, **texts, **stanza})
