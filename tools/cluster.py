@@ -34,6 +34,8 @@ LOOKING, COMING = 1, 120
 ROOM, LOCK = "debplan", "debplan.lock"
 # The seconds for which a worker keeps what it was handed and doesn't use.
 KEEPING = 86400
+# How what workers hand back may be written: as bytes and messages, and not as objects that are made by running what these say.
+DATA = ("dask", "msgpack", "error")
 # What the file of a refutation is called.
 WRITTEN = re.compile(r"[A-Za-z0-9][^/\0]*\.(?:request|refutation)", re.DOTALL)
 
@@ -221,7 +223,7 @@ def connected(address, inputs, parcel=None, certificates=()):
     cloudpickle.register_pickle_by_value(sys.modules[__name__])
     try:
         distributed.comm.resolve_address(address)
-        client = client_of(distributed)(address, timeout=REACHING, set_as_default=False,
+        client = client_of(distributed)(address, timeout=REACHING, set_as_default=False, deserializers=DATA,
                                         security=security_by(distributed, certificates))
     except TypeError:
         raise Failure(f"the scheduler {address} can't be reached: neither options nor Dask's configuration name certificates", 69) from None

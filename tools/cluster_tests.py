@@ -1,5 +1,6 @@
 """The part of the self-test of tools/archive-check that needs Dask: a scheduler on this machine, with four workers, of which two die.
 It goes on in the folder of the other part, and wants the same outputs."""
+import base64
 import contextlib
 import importlib.util
 import json
@@ -7,6 +8,8 @@ import subprocess
 import sys
 import time
 
+import cluster
+from common import Failure
 from trials import ASKING, WHOLE, fails
 
 COMMANDS = {
@@ -57,6 +60,11 @@ CALLS = [
 ]
 
 
+# The names of files that a worker hands back, and whether they are kept.
+NAMES = {"a_1.request": True, "a_1:2~rc1+b.refutation": True, "base.request": True, "../a_1.request": False, "/a_1.request": False,
+         "a/b.request": False, "..request": False, ".request": False, "a_1": False, "a_1.request.new": False, "a\0.request": False, "": False}
+
+
 def is_there():
     return importlib.util.find_spec("distributed") is not None
 
@@ -67,7 +75,11 @@ def left_out():
 
 
 def tried_in(room):
-    """Yields of each call, and of what is to be left by the last one, why it isn't as it is wanted, or None."""
+    """Yields of what a worker may hand back, of each call, and of what is to be left by the last one, why it isn't as it is wanted, or
+    None."""
+    (room / "returned/here").mkdir(parents=True)
+    yield from (fails_to_keep(room / "returned/here", *it) for it in NAMES.items())
+    yield from (None if is_refused(cluster.read, it, "of a test") else f"{it} is read as data" for it in ({}, None, b"\x80", b"{"))
     if not is_there():
         return
     for name in WRITTEN:
@@ -84,6 +96,27 @@ def tried_in(room):
         yield None if left == WORKERS - DEAD else f"{left} folders of workers are there, and not {WORKERS - DEAD}"
     others = [f"{folder}/{name}" for folder in WRITTEN for name in FILES if not is_same(room, folder, name)]
     yield f"{others[0]} isn't that of kept" if others else None
+
+
+def is_refused(function, *arguments):
+    """Whether a function ends the tool."""
+    try:
+        function(*arguments)
+    except Failure:
+        return True
+    return False
+
+
+def fails_to_keep(folder, name, is_kept):
+    """Why a file that a worker hands back isn't kept, or is kept though it has no name of its kind; None where it is as wanted."""
+    task = cluster.Task.__new__(cluster.Task)
+    task.folder, task.found = folder, {"worker": "of a test"}
+    refused = is_refused(task.keep, {name: base64.b64encode(b"text").decode()})
+    left = [str(it.relative_to(folder.parent)) for it in folder.parent.glob("**/*") if it.is_file()]
+    for path in left:
+        (folder.parent / path).unlink()
+    right = (refused, left) == (not is_kept, [f"here/{name}"] if is_kept else [])
+    return None if right else f"the file {name!r} of a worker: {'refused' if refused else 'kept'}, left are {left}"
 
 
 def is_same(room, folder, name):
