@@ -1,0 +1,1 @@
+//! The engine over texts in memory.

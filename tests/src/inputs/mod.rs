@@ -1,0 +1,1 @@
+//! Readers of the archive, of preferences and of the status file.

@@ -1,0 +1,1 @@
+//! The universe, its candidates and providers, and the judge of plans.

@@ -1,0 +1,1 @@
+//! The program over files in memory.

@@ -1,0 +1,1 @@
+//! Clauses, the search, and what is made of what it finds.

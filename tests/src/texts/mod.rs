@@ -1,0 +1,1 @@
+//! Text: stanzas, versions, relations, requests, plans, refutations, and laws over all texts of some kind.
