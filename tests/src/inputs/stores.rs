@@ -1,97 +1,47 @@
-//! What the clauses do not say: printed refusals, worked texts, and that the calls succeed. The texts and what actions
-//! leave were worked out by hand from dpkg(1) and Debian Policy 5; the architecture is amd64.
-use crate::shown::spelled;
+//! What steps leave of a status file, the refusals of steps as they are printed, and the look-ups of records. The texts and what
+//! actions leave were worked out by hand from dpkg(1) and Debian Policy 5; the architecture is amd64.
+use crate::texts::{all_hold, columns, is_printed};
 use plantext::read_step;
-use status::{ApplyError, Database, StatusRecord, Step};
+use status::{ApplyError, Database};
 use std::alloc::{AllocError, Global};
 use std::test::Fail;
 
 const ARCH: &[u8] = b"amd64";
 
-fn given(stanza: &[u8]) -> Option<&[u8]> {
+fn given(stanza: &str) -> Option<&[u8]> {
     if stanza.is_empty() {
         None
     } else {
-        Some(stanza)
+        Some(stanza.as_bytes())
     }
-}
-
-fn is_printed(alloc: Global, error: &ApplyError<'_>, wanted: &str) -> Result<bool, Fail> {
-    Ok(error.to_string(alloc)?.as_str() == wanted)
-}
-
-// Whether the step is refused, and then whether its refusal is printed so.
-fn refused_so(
-    alloc: Global,
-    db: &mut Database,
-    step: &Step,
-    stanza: &[u8],
-    wanted: &str,
-) -> Result<Option<bool>, Fail> {
-    match db.apply(alloc, step, given(stanza)) {
-        Ok(()) => Ok(None),
-        Err(refused) => Ok(Some(is_printed(alloc, &refused, wanted)?)),
-    }
-}
-
-// The same of the step of a line.
-fn line_refused_so(
-    alloc: Global,
-    db: &mut Database,
-    line: &str,
-    stanza: &str,
-    wanted: &str,
-) -> Result<Option<bool>, Fail> {
-    let step = read_step(alloc, line.as_bytes())?;
-    refused_so(alloc, db, &step, stanza.as_bytes(), wanted)
-}
-
-fn has_text(alloc: Global, db: &Database, wanted: &[u8]) -> Result<bool, AllocError> {
-    let text = db.text(alloc)?;
-    Ok(text.as_slice() == wanted)
-}
-
-fn has_copied_text(alloc: Global, db: &Database, wanted: &[u8]) -> Result<bool, AllocError> {
-    let copy = db.try_copy(alloc)?;
-    has_text(alloc, &copy, wanted)
 }
 
 // Whether the text is the database's, as is that of its copy.
-fn is_text(alloc: Global, db: &Database, text: &[u8]) -> Result<bool, AllocError> {
-    Ok(has_text(alloc, db, text)? && has_copied_text(alloc, db, text)?)
+fn has_text(alloc: Global, db: &Database, wanted: &str) -> Result<bool, AllocError> {
+    let copy = db.try_copy(alloc)?;
+    Ok(
+        db.text(alloc)?.as_slice() == wanted.as_bytes()
+            && copy.text(alloc)?.as_slice() == wanted.as_bytes(),
+    )
 }
 
-// Whether the text, read again, is its own text.
-fn is_read_again(alloc: Global, text: &[u8]) -> Result<bool, Fail> {
-    let db = Database::read(alloc, text, ARCH)?;
-    Ok(is_text(alloc, &db, text)?)
-}
-
-// Whether the steps leave this text, which is read again, or the first refusal is printed so.
-fn leaves(alloc: Global, db: &mut Database, wanted: &str, steps: &str) -> Result<bool, Fail> {
+// Whether the steps leave this text, which reads again as the same, or the first refusal is printed so.
+fn leave(alloc: Global, row: &str) -> Result<bool, Fail> {
+    let (status, rest) = columns(row);
+    let (wanted, steps) = columns(rest);
+    let mut db = Database::read(alloc, status.as_bytes(), ARCH)?;
     let mut parts = steps.split('→');
     while let (Some(line), Some(stanza)) = (parts.next(), parts.next()) {
-        if let Some(answer) = line_refused_so(alloc, db, line, stanza, wanted)? {
-            return Ok(answer);
+        let step = read_step(alloc, line.as_bytes())?;
+        if let Err(refused) = db.apply(alloc, &step, given(stanza)) {
+            return Ok(is_printed(alloc, &refused, wanted)?);
         }
     }
-    Ok(has_text(alloc, db, wanted.as_bytes())? && is_read_again(alloc, wanted.as_bytes())?)
+    let again = Database::read(alloc, wanted.as_bytes(), ARCH)?;
+    Ok(has_text(alloc, &db, wanted)? && has_text(alloc, &again, wanted)?)
 }
 
-fn is_left(alloc: Global, row: &str) -> Result<bool, Fail> {
-    let (status, rest) = row.split_once('→').unwrap_or((row, ""));
-    let (wanted, steps) = rest.split_once('→').unwrap_or((rest, ""));
-    let mut db = Database::read(alloc, status.as_bytes(), ARCH)?;
-    leaves(alloc, &mut db, wanted, steps)
-}
-
-fn holds(alloc: Global, row: &str) -> Result<bool, Fail> {
-    let row = spelled(alloc, row)?;
-    is_left(alloc, row.as_str())
-}
-
-// The status file, the text or the refusal that is wanted, and the steps, each with what is handed in; `$` stands for a
-// newline.
+// The status file, the text or the refusal that is wanted, and the steps, each with what is handed in.
 const LEFT: &str = "\
 Status: hold ok installed$Version:1$package: q$Architecture: all→package: q$Status: hold ok half-configured$Version: 1$Config-Version: 1$Architecture: all$$→deconfigure q$→
 Package: q$Status: install ok half-configured$Config-Version: 0$Version: 1$Architecture: all$Tag:$ a$→Package: q$Status: install ok installed$Version: 1$Architecture: all$Tag:$ a$$→configure q$→
@@ -135,10 +85,7 @@ Package: a$Status: install ok installed$Architecture: all$Version: 1$→E24 NotA
 
 #[test]
 fn steps_leave_these_texts_which_are_read_again(rt: HostRuntime) -> Result<(), Fail> {
-    for row in LEFT.lines() {
-        assert!(rt; holds(rt.alloc(), row)?, "{row}");
-    }
-    Ok(())
+    all_hold(rt.alloc(), LEFT, leave)
 }
 
 // The same of plans that dpkg carried out (`bench/dpkg_sequences.py`), with each kind of step on each kind of record from
@@ -184,108 +131,54 @@ Package: p$Status: install ok installed$Version: 1$Architecture: all$$Package: q
 
 #[test]
 fn steps_leave_the_states_that_dpkg_leaves(rt: HostRuntime) -> Result<(), Fail> {
-    for row in LEFT_BY_DPKG.lines() {
-        assert!(rt; holds(rt.alloc(), row)?, "{row}");
-    }
-    Ok(())
+    all_hold(rt.alloc(), LEFT_BY_DPKG, leave)
 }
 
 // Names that are recorded, and one of another architecture.
 const NAMED: &[u8] =
     b"Package: b\nStatus: install ok installed\nArchitecture: all\nVersion: 1\n\nPackage: x\nStatus: unknown ok not-installed\nArchitecture: i386\n\nPackage: a\nStatus: hold ok not-installed\n";
 
-fn is_held_alone(record: &Option<StatusRecord<'_>>) -> bool {
-    match record {
-        Some(record) => record.is_held() && !record.is_present(),
-        None => false,
-    }
-}
+const A: &[u8] = b"a";
 
-fn are_named(names: &[Vec<u8>]) -> bool {
-    match names {
-        [first, second] => {
-            first.as_slice() == b"b".as_slice() && second.as_slice() == b"a".as_slice()
-        }
-        _ => false,
-    }
-}
-
-fn finds_records(db: &Database) -> bool {
-    db.arch() == ARCH
-        && are_named(db.names())
-        && db.record(b"x").is_none()
-        && is_held_alone(&db.record(b"a"))
-}
-
-// Whether the records are those of the names, in their order.
-fn are_in_order(alloc: Global, db: &Database) -> Result<bool, AllocError> {
-    let records = db.records(alloc)?;
-    match records.as_slice() {
-        [first, second] => Ok(first.name() == b"b".as_slice() && second.name() == b"a".as_slice()),
-        _ => Ok(false),
-    }
-}
+const B: &[u8] = b"b";
 
 #[test]
 fn names_are_those_of_records_which_are_found_by_them(rt: HostRuntime) -> Result<(), Fail> {
     let db = Database::read(rt.alloc(), NAMED, ARCH)?;
-    assert!(rt; finds_records(&db));
-    assert!(rt; are_in_order(rt.alloc(), &db)?);
+    let names = db.names();
+    assert!(rt; names.len() == 2 && names[0].as_slice() == B && names[1].as_slice() == A);
+    let records = db.records(rt.alloc())?;
+    assert!(rt; records.len() == 2 && records[0].name() == B && records[1].name() == A);
+    assert!(rt; db.arch() == ARCH && db.record(b"x").is_none());
+    assert!(rt; matches!(db.record(A), Some(a) if a.is_held() && !a.is_present()));
     Ok(())
 }
 
-// Whether the step is refused for the name.
-fn is_refused_for(alloc: Global, db: &mut Database, step: &Step, name: &[u8]) -> bool {
-    match db.apply(alloc, step, None) {
-        Err(ApplyError::NotApplicable(refused)) => refused.as_bytes() == name,
-        _ => false,
-    }
-}
-
-fn is_refused(alloc: Global, step: &Step) -> Result<bool, Fail> {
-    let mut db = Database::read(alloc, b"", ARCH)?;
-    Ok(is_refused_for(alloc, &mut db, step, b"a"))
-}
-
 #[test]
-fn a_refused_name_is_lent(rt: HostRuntime) -> Result<(), Fail> {
+fn the_name_of_a_refusal_is_lent(rt: HostRuntime) -> Result<(), Fail> {
     let step = read_step(rt.alloc(), b"remove a\n")?;
-    assert!(rt; is_refused(rt.alloc(), &step)?);
+    let mut db = Database::read(rt.alloc(), b"", ARCH)?;
+    match db.apply(rt.alloc(), &step, None) {
+        Err(ApplyError::NotApplicable(name)) => assert!(rt; name.as_bytes() == b"a".as_slice()),
+        _ => return Err(Fail::new("not refused")),
+    }
     Ok(())
 }
 
 const UNPACKED: &[u8] = b"Package: x\nVersion: 2\nArchitecture: all\nDepends: y, z\n";
 
-fn is_unpacked(record: &StatusRecord<'_>) -> bool {
-    record.stands()
-        && !record.is_installed()
-        && !record.is_held()
-        && !record.is_essential()
-        && record.name() == b"x".as_slice()
-        && record.version().is_some()
-        && record.config_version().is_none()
-}
-
-fn has_two_dependencies(alloc: Global, record: &StatusRecord<'_>) -> Result<bool, AllocError> {
-    if !record.is_present() {
-        return Ok(false);
-    }
-    let pkg = record.pkg(alloc)?;
-    Ok(pkg.depends().len() == 2)
-}
-
-fn has_its_package(alloc: Global) -> Result<bool, Fail> {
-    let mut db = Database::read(alloc, b"", ARCH)?;
-    let step = read_step(alloc, b"unpack x 2\n")?;
-    db.apply(alloc, &step, Some(UNPACKED))?;
-    let Some(record) = db.record(b"x") else {
-        return Ok(false);
-    };
-    Ok(is_unpacked(&record) && has_two_dependencies(alloc, &record)?)
-}
-
+// The calls of the README's example.
 #[test]
 fn an_unpacked_record_has_its_package(rt: HostRuntime) -> Result<(), Fail> {
-    assert!(rt; has_its_package(rt.alloc())?);
+    let mut db = Database::read(rt.alloc(), b"", ARCH)?;
+    let step = read_step(rt.alloc(), b"unpack x 2\n")?;
+    db.apply(rt.alloc(), &step, Some(UNPACKED))?;
+    let Some(record) = db.record(b"x") else {
+        return Err(Fail::new("no record"));
+    };
+    assert!(rt; record.is_present() && record.stands() && !record.is_installed());
+    assert!(rt; !record.is_held() && !record.is_essential() && record.name() == b"x".as_slice());
+    assert!(rt; record.version().is_some() && record.config_version().is_none());
+    assert_eq!(rt; record.pkg(rt.alloc())?.depends().len(), 2);
     Ok(())
 }

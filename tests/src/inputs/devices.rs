@@ -1,6 +1,4 @@
 //! Sources that give few bytes at a time, or none.
-ghost use Rattle.std.specs.Prelude.{Some};
-
 use stanza::{ReadFailed, Source};
 
 /// Bytes of which no reading gives more than so many.
@@ -11,8 +9,6 @@ pub(crate) struct Few<'a> {
 }
 
 impl Source for Few<'_> {
-    ghost left = { λ few. Some few.bytes.now };
-
     ghost faults = { λ _. 0 };
 
     fn failures(&self) -> u64 {
