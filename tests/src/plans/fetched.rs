@@ -1,12 +1,13 @@
 //! The stanzas of a universe's pairs, fetched index by index: row by row the number of the index, the text at its second reading,
 //! what comes of it, and what is there after it: of each pair the bytes of its stanza, or `-`, with `|` behind each, and `whole`
-//! where those of all were fetched. `$` stands for a newline. The rows act on one value, one after the other.
-use crate::devices::{Broken, Few};
+//! where those of all were fetched. The rows act on one value, one after the other.
+use crate::inputs::{Broken, Few};
+use crate::texts::{Shown, columns};
 use index::{Index, KeptIndex};
 use pins::Prefs;
 use rules::{Release, Text};
 use std::alloc::{AllocError, Global};
-use universe::Universe;
+use std::test::Fail;
 use universe_build::build;
 use unpack_texts::{FetchError, FetchedStanzas};
 
@@ -34,15 +35,13 @@ const ROWS: &str = "\
 2→Package: x$$Package: c$Version: 2$Architecture: all$→changed→Package: a$Version: 1$Architecture: all$|Package: b$Version: 1$Architecture: all|Package: b$Version: 2$Architecture: all$|Package: c$Version: 1$Architecture: all$|whole";
 
 // What is there of the four pairs.
-fn shown_of(alloc: Global, stanzas: &FetchedStanzas<'_, '_>) -> Result<Vec<u8>, AllocError> {
-    let mut shown = Vec::new(alloc);
+fn shown_of(alloc: Global, stanzas: &FetchedStanzas<'_, '_>) -> Result<Shown, AllocError> {
+    let mut shown = Shown::new(alloc);
     for number in 1..5u32 {
-        shown.extend_from_slice(stanzas.stanza(number).unwrap_or(b"-".as_slice()))?;
-        shown.push(b'|')?;
+        shown.add_bytes(stanzas.stanza(number).unwrap_or(b"-".as_slice()))?;
+        shown.add("|")?;
     }
-    if stanzas.is_fetched() {
-        shown.extend_from_slice(b"whole")?;
-    }
+    shown.add(if stanzas.is_fetched() { "whole" } else { "" })?;
     Ok(shown)
 }
 
@@ -56,95 +55,56 @@ fn word_of(outcome: Result<(), FetchError>) -> &'static str {
 }
 
 // Fetches from a text of which no reading gives more than so many bytes, or from a device that fails.
-fn fetched_as(
-    alloc: Global,
-    stanzas: &mut FetchedStanzas<'_, '_>,
-    number: usize,
-    text: &[u8],
-    most: usize,
-    wanted: &str,
-) -> bool {
-    let outcome = if wanted == "unread" {
-        stanzas.fetch(alloc, number, &mut Broken { failures: 0 }, ARCH)
-    } else {
-        stanzas.fetch(alloc, number, &mut Few { bytes: text, most }, ARCH)
-    };
-    word_of(outcome) == wanted
-}
-
 fn holds(
     alloc: Global,
     stanzas: &mut FetchedStanzas<'_, '_>,
     row: &str,
     most: usize,
 ) -> Result<bool, AllocError> {
-    let Some((number, rest)) = row.split_once('→') else {
-        return Ok(false);
-    };
-    let Some((text, rest)) = rest.split_once('→') else {
-        return Ok(false);
-    };
-    let Some((word, shown)) = rest.split_once('→') else {
-        return Ok(false);
-    };
+    let (number, rest) = columns(row);
+    let (text, rest) = columns(rest);
+    let (word, wanted) = columns(rest);
     let number = number.parse::<usize>().unwrap_or(0);
-    Ok(
-        fetched_as(alloc, stanzas, number, text.as_bytes(), most, word)
-            && shown_of(alloc, stanzas)?.as_slice() == shown.as_bytes(),
-    )
-}
-
-fn all_hold(alloc: Global, universe: &Universe<'_, '_>, most: usize) -> Result<bool, AllocError> {
-    let mut stanzas = FetchedStanzas::new(alloc, universe)?;
-    for row in ROWS.lines() {
-        let row = row.replace(alloc, "$", "\n")?;
-        if !holds(alloc, &mut stanzas, row.as_str(), most)? {
-            return Ok(false);
-        }
-    }
-    Ok(stanzas.stanza(0).is_none() && stanzas.stanza(5).is_none())
-}
-
-fn all_hold_over(alloc: Global, indices: &[Index<'_>], most: usize) -> Result<bool, AllocError> {
-    let prefs = Prefs::without_records(alloc, None)?;
-    match build(alloc, &[], indices, &prefs, Vec::new(alloc), true) {
-        Ok(universe) => all_hold(alloc, &universe, most),
-        Err(_) => Ok(false),
-    }
+    let bytes = text.as_bytes();
+    let outcome = if word == "unread" {
+        stanzas.fetch(alloc, number, &mut Broken { failures: 0 }, ARCH)
+    } else {
+        stanzas.fetch(alloc, number, &mut Few { bytes, most }, ARCH)
+    };
+    Ok(word_of(outcome) == word && shown_of(alloc, stanzas)?.is(wanted))
 }
 
 // What is kept of the text, as the index of this number.
-fn kept_of(alloc: Global, text: &[u8], number: usize) -> Result<KeptIndex, AllocError> {
+fn kept_of(alloc: Global, text: &[u8], number: usize) -> Result<KeptIndex, Fail> {
     let mut source = text;
-    KeptIndex::read_from(alloc, &mut source, ARCH, number, 0).map_err(|_| AllocError)
+    Ok(KeptIndex::read_from(alloc, &mut source, ARCH, number, 0)?)
 }
 
-fn kept(alloc: Global) -> Result<Vec<KeptIndex>, AllocError> {
-    let mut kept = Vec::new(alloc);
-    kept.push(kept_of(alloc, FIRST, 1)?)?;
-    kept.push(kept_of(alloc, SECOND, 2)?)?;
-    Ok(kept)
-}
-
-fn lent<'a>(alloc: Global, kept: &'a [KeptIndex]) -> Result<Vec<Index<'a>>, AllocError> {
-    let mut indices = Vec::new(alloc);
-    for index in kept {
-        let release = Release::without_keys(Text::copied_from(alloc, b"")?);
-        indices.push(Index::of(alloc, index, release)?)?;
-    }
-    Ok(indices)
-}
-
-fn are_fetched(alloc: Global, most: usize) -> Result<bool, AllocError> {
-    let kept = kept(alloc)?;
-    let indices = lent(alloc, kept.as_slice())?;
-    all_hold_over(alloc, indices.as_slice(), most)
+fn lent(alloc: Global, kept: &KeptIndex) -> Result<Index<'_>, AllocError> {
+    Index::of(
+        alloc,
+        kept,
+        Release::without_keys(Text::copied_from(alloc, b"")?),
+    )
 }
 
 #[test]
-fn stanzas_are_fetched_index_by_index(rt: HostRuntime) -> Result<(), AllocError> {
+fn stanzas_are_fetched_index_by_index(rt: HostRuntime) -> Result<(), Fail> {
+    let alloc = rt.alloc();
+    let (first, second) = (kept_of(alloc, FIRST, 1)?, kept_of(alloc, SECOND, 2)?);
+    let indices = [lent(alloc, &first)?, lent(alloc, &second)?];
+    let prefs = Prefs::without_records(alloc, None)?;
+    let universe = build(alloc, &[], &indices, &prefs, Vec::new(alloc), true)?;
     for most in 1..4 {
-        assert!(rt; are_fetched(rt.alloc(), most)?, "{most}");
+        let mut stanzas = FetchedStanzas::new(alloc, &universe)?;
+        for row in ROWS.lines() {
+            let row = row.replace(alloc, "$", "\n")?;
+            assert!(rt;
+                holds(alloc, &mut stanzas, row.as_str(), most)?,
+                "{most} {row}"
+            );
+        }
+        assert!(rt; stanzas.stanza(0).is_none() && stanzas.stanza(5).is_none());
     }
     Ok(())
 }

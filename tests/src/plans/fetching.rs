@@ -1,12 +1,12 @@
 //! What is fetched in a second reading, row by row: the text that an index is read as, the text at the second reading, the
-//! numbers of the stanzas that are wanted, and the texts that are fetched one behind the other, with `$` for a newline. Where
+//! numbers of the stanzas that are wanted, and the texts that are fetched one behind the other. Where
 //! the index has changed, `-` stands.
-ghost use Rattle.std.specs.List.Sorted.{IsNonDecreasingBy};
-
-use crate::devices::{Broken, Few};
+use crate::inputs::{Broken, Few};
+use crate::texts::{Shown, all_hold, columns};
 use index::{Index, IndexEntry, KeptIndex};
 use rules::{Release, Text};
 use std::alloc::{AllocError, Global};
+use std::test::Fail;
 use unpack_texts::{FetchError, fetch, in_order};
 
 const ARCH: &[u8] = b"amd64";
@@ -35,123 +35,89 @@ Package: a$Version: 1$Architecture: all$Breaks: b:i386$→Package: a$Version: 1$
 Package: a$Version: 1$Architecture: all$Provides: b, c$→Package: a$Version: 1$Architecture: all$Provides: c, b$→1→-
 Package: a$Version: 1$Architecture: all$Depends: b|c$→Package: a$Version: 1$Architecture: all$Depends: b | c$→1→Package: a$Version: 1$Architecture: all$Depends: b | c$";
 
-// The numbers of stanzas, parted by spaces.
-fn is_among(number: usize, wanted: &str) -> bool {
-    wanted.split(' ').any(|word| word.parse::<usize>().is_ok_and(|found| found == number))
-}
-
-// Those of the packages whose stanzas have these numbers, the last first.
+// Those of the packages whose stanzas have these numbers, which spaces part, in order. They are handed in the last first.
 fn picked<'p, 'a>(
     alloc: Global,
     index: &'p Index<'a>,
-    wanted: &str,
+    numbers: &str,
 ) -> Result<Vec<&'p IndexEntry<'a>>, AllocError> {
     let mut found = Vec::new(alloc);
     for entry in index.packages() {
-        if is_among(entry.place().stanza, wanted) {
+        let number = entry.place().stanza;
+        if numbers.split(' ').any(|word| word.parse::<usize>().is_ok_and(|found| found == number)) {
             found.push(entry)?;
         }
     }
     found.reverse();
-    Ok(found)
+    in_order(found)
 }
 
-// The texts one behind the other.
-fn joined(alloc: Global, texts: &[Vec<u8>]) -> Result<Vec<u8>, AllocError> {
-    let mut shown = Vec::new(alloc);
-    for text in texts {
-        shown.extend_from_slice(text)?;
+// The texts that are fetched one behind the other, where readings give so many bytes at most.
+fn fetched(
+    alloc: Global,
+    wanted: &[&IndexEntry<'_>],
+    text: &str,
+    most: usize,
+) -> Result<Shown, AllocError> {
+    let mut shown = Shown::new(alloc);
+    let mut source = Few {
+        bytes: text.as_bytes(),
+        most,
+    };
+    match fetch(alloc, &mut source, ARCH, wanted) {
+        Ok(texts) => {
+            for text in texts.as_slice() {
+                shown.add_bytes(text.as_slice())?;
+            }
+        }
+        Err(FetchError::Changed) => shown.add("-")?,
+        Err(_) => shown.add("refused")?,
     }
     Ok(shown)
 }
 
-// What is shown of the fetching, where readings give so many bytes at most.
-fn shown_of(
-    alloc: Global,
-    wanted: &[&IndexEntry<'_>],
-    text: &[u8],
-    most: usize,
-) -> Result<Vec<u8>, AllocError>
-    requires { IsNonDecreasingBy (λ entry. entry.now.place.stanza) wanted.now }
-{
-    match fetch(alloc, &mut Few { bytes: text, most }, ARCH, wanted) {
-        Ok(texts) => joined(alloc, texts.as_slice()),
-        Err(FetchError::Changed) => b"-".to_vec(alloc),
-        Err(_) => Err(AllocError),
-    }
-}
-
-// Whether this is fetched, however many bytes a reading gives.
-fn is_fetched(
-    alloc: Global,
-    index: &Index<'_>,
-    text: &[u8],
-    numbers: &str,
-    wanted: &[u8],
-) -> Result<bool, AllocError> {
-    let entries = in_order(picked(alloc, index, numbers)?)?;
-    for most in 1..9 {
-        if shown_of(alloc, entries.as_slice(), text, most)?.as_slice() != wanted {
-            return Ok(false);
-        }
-    }
-    Ok(shown_of(alloc, entries.as_slice(), text, usize::MAX)?.as_slice() == wanted)
-}
-
 // What the first reading keeps of the text.
-fn kept_of(alloc: Global, text: &[u8]) -> Result<KeptIndex, AllocError> {
-    let mut source = text;
-    KeptIndex::read_from(alloc, &mut source, ARCH, 1, 0).map_err(|_| AllocError)
+fn kept_of(alloc: Global, text: &str) -> Result<KeptIndex, Fail> {
+    let mut source = text.as_bytes();
+    Ok(KeptIndex::read_from(alloc, &mut source, ARCH, 1, 0)?)
 }
 
 fn lent(alloc: Global, kept: &KeptIndex) -> Result<Index<'_>, AllocError> {
-    let release = Release::without_keys(Text::copied_from(alloc, b"")?);
-    Index::of(alloc, kept, release)
+    Index::of(
+        alloc,
+        kept,
+        Release::without_keys(Text::copied_from(alloc, b"")?),
+    )
 }
 
-fn is_row(
-    alloc: Global,
-    first: &str,
-    second: &str,
-    numbers: &str,
-    wanted: &str,
-) -> Result<bool, AllocError> {
-    let kept = kept_of(alloc, first.as_bytes())?;
+// Whether this is fetched, however many bytes a reading gives.
+fn is_fetched(alloc: Global, row: &str) -> Result<bool, Fail> {
+    let (first, rest) = columns(row);
+    let (second, rest) = columns(rest);
+    let (numbers, wanted) = columns(rest);
+    let kept = kept_of(alloc, first)?;
     let index = lent(alloc, &kept)?;
-    is_fetched(alloc, &index, second.as_bytes(), numbers, wanted.as_bytes())
-}
-
-fn holds(alloc: Global, row: &str) -> Result<bool, AllocError> {
-    let Some((first, rest)) = row.split_once('→') else {
-        return Ok(false);
-    };
-    let Some((second, rest)) = rest.split_once('→') else {
-        return Ok(false);
-    };
-    let Some((numbers, wanted)) = rest.split_once('→') else {
-        return Ok(false);
-    };
-    is_row(alloc, first, second, numbers, wanted)
-}
-
-#[test]
-fn a_stanza_is_fetched_where_it_is_of_the_same_package(rt: HostRuntime) -> Result<(), AllocError> {
-    for row in ROWS.lines() {
-        let row = row.replace(rt.alloc(), "$", "\n")?;
-        assert!(rt; holds(rt.alloc(), row.as_str())?, "{row}");
+    let entries = picked(alloc, &index, numbers)?;
+    for most in [1, 2, 3, 4, 5, 6, 7, 8, usize::MAX] {
+        if !fetched(alloc, entries.as_slice(), second, most)?.is(wanted) {
+            return Ok(false);
+        }
     }
-    Ok(())
-}
-
-fn fails_as(alloc: Global) -> Result<Option<FetchError>, AllocError> {
-    let kept = kept_of(alloc, b"Package: a\nVersion: 1\nArchitecture: all\n")?;
-    let index = lent(alloc, &kept)?;
-    let entries = in_order(picked(alloc, &index, "1")?)?;
-    Ok(fetch(alloc, &mut Broken { failures: 0 }, ARCH, entries.as_slice()).err())
+    Ok(true)
 }
 
 #[test]
-fn a_device_that_fails_is_no_change(rt: HostRuntime) -> Result<(), AllocError> {
-    assert!(rt; fails_as(rt.alloc())? == Some(FetchError::Read));
+fn a_stanza_is_fetched_where_it_is_of_the_same_package(rt: HostRuntime) -> Result<(), Fail> {
+    all_hold(rt.alloc(), ROWS, is_fetched)
+}
+
+#[test]
+fn a_device_that_fails_is_no_change(rt: HostRuntime) -> Result<(), Fail> {
+    let kept = kept_of(rt.alloc(), "Package: a\nVersion: 1\nArchitecture: all\n")?;
+    let index = lent(rt.alloc(), &kept)?;
+    let entries = picked(rt.alloc(), &index, "1")?;
+    let mut device = Broken { failures: 0 };
+    let error = fetch(rt.alloc(), &mut device, ARCH, entries.as_slice()).err();
+    assert!(rt; error == Some(FetchError::Read));
     Ok(())
 }

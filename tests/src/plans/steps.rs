@@ -1,5 +1,6 @@
 //! Which rule an unpacking fails in small databases, over packages read from stanzas (Policy 7.4).
-use crate::packages::{ARCH, holds, word_of};
+use super::records::{ARCH, answer, word_of};
+use crate::texts::all_hold;
 use index::{IndexPackage, read_alone};
 use plancheck::unpack_failing;
 use plancheck_state::Records;
@@ -10,30 +11,32 @@ use std::test::Fail;
 fn text_of(name: &str) -> &'static [u8] {
     match name {
         "a" => b"Package: a\nVersion: 1\nArchitecture: all\nConflicts: b\n",
-        "b" => b"Package: b\nVersion: 1\nArchitecture: all\n",
-        _ => b"",
+        _ => b"Package: b\nVersion: 1\nArchitecture: all\n",
     }
 }
 
-/// Whether unpacking the package fails this rule, where its stanza is in an index and where it isn't.
-pub(crate) fn unpacks_so(
+// Whether unpacking the package fails this rule, where its stanza is in an index and where it isn't.
+fn unpacks_so(
     alloc: Global,
     db: &Records<'_, '_>,
-    name: &str,
-    is_listed: bool,
+    asked: &str,
     wanted: &str,
 ) -> Result<bool, Fail> {
+    let (verb, name) = asked.split_once(' ').unwrap_or((asked, ""));
     let Some(indexed) = read_alone(text_of(name), ARCH) else {
         return Ok(false);
     };
-    let pkg = indexed.pkg(alloc)?;
     let listed = IndexPackage::new(
-        pkg,
+        indexed.pkg(alloc)?,
         indexed.is_essential(),
         indexed.says_essential(),
         indexed.place(),
     );
-    let given = if is_listed { Some(&listed) } else { None };
+    let given = if verb == "unpack" {
+        Some(&listed)
+    } else {
+        None
+    };
     Ok(word_of(unpack_failing(db, given, indexed.name(), indexed.version())) == wanted)
 }
 
@@ -48,8 +51,9 @@ const CONFLICTS: &str = "\
 
 #[test]
 fn a_conflict_counts_either_way(rt: HostRuntime) -> Result<(), Fail> {
-    for row in CONFLICTS.lines() {
-        assert!(rt; holds(rt.alloc(), row)?, "{row}");
-    }
-    Ok(())
+    all_hold(
+        rt.alloc(),
+        CONFLICTS,
+        |alloc, row| answer(alloc, row, unpacks_so),
+    )
 }
