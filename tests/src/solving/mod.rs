@@ -1,1 +1,10 @@
 //! Clauses, the search, and what is made of what it finds.
+mod answers;
+mod calls;
+mod clauses_true;
+mod holders;
+mod orders;
+mod puzzles;
+mod replay;
+mod settled;
+mod texts;
