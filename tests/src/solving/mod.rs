@@ -1,7 +1,6 @@
 //! Clauses, the search, and what is made of what it finds.
 mod answers;
 mod calls;
-mod clauses_true;
 mod holders;
 mod orders;
 mod puzzles;

@@ -1,10 +1,11 @@
-//! Selections that no search would find, put in order: what is answered is counted by hand.
+//! Selections that no search would find, put in order: what is answered is worked by hand.
+use super::texts::{numbers_in, stanzas_in};
 use order::{Ordered, is_one_each, order};
 use pins::Prefs;
 use plancheck_state::{Records, parse_packages, view};
-use relation::Pkg;
-use rules::{Step, universe_is_built};
-use status_text::{StatusFile, StatusRecord};
+use plantext::write_plan;
+use rules::Step;
+use status_text::StatusFile;
 use std::alloc::Global;
 use std::test::Fail;
 use universe::Universe;
@@ -13,13 +14,27 @@ use universe_request::Request;
 
 const ARCH: &[u8] = b"amd64";
 
-// The answer in a word, and how many steps it has.
-fn said_of(ordered: &Ordered) -> (&'static str, usize) {
+// The status file, the request, the numbers that are selected, the answer with its steps, and why.
+const ROWS: &str = "\
+installed a; Depends: b→→1→stuck→what depends on nothing there is stuck without a step
+unpacked b, installed e; Essential: yes→→1→stuck configure b→what can be configured is, before an essential package stays
+installed a, installed b→remove b→1→plan remove b→what is selected is never removed
+";
+
+// The answer in a word, and its steps.
+fn said_of(alloc: Global, ordered: &Ordered) -> Result<String, Fail> {
     match ordered {
-        Ordered::Plan(steps) => ("plan", steps.len()),
-        Ordered::Start => ("start", 0),
-        Ordered::Stuck(steps) => ("stuck", steps.len()),
+        Ordered::Plan(steps) => words_of(alloc, "plan", steps.as_slice()),
+        Ordered::Start => words_of(alloc, "start", &[]),
+        Ordered::Stuck(steps) => words_of(alloc, "stuck", steps.as_slice()),
     }
+}
+
+// A word, and behind it each step, in place of the first line of a plan.
+fn words_of(alloc: Global, word: &str, steps: &[Step]) -> Result<String, Fail> {
+    let text = String::from_utf8(write_plan(alloc, steps)?)?;
+    let words = text.trim_end().replace(alloc, "\n", " ")?;
+    Ok(words.as_str().replace(alloc, "plan 1", word)?)
 }
 
 // The order of the pairs of these numbers.
@@ -35,44 +50,6 @@ fn ordered_on<'p, 'a>(
     Ok(order(alloc, start, universe, selection)?)
 }
 
-// The same from these records on, with their packages.
-fn ordered_with<'p, 'a>(
-    alloc: Global,
-    records: &[&StatusRecord<'a>],
-    packages: &'p [Option<Pkg<'a>>],
-    request: &str,
-    selection: &[u32],
-) -> Result<Ordered, Fail> {
-    universe_is_built();
-    let prefs = Prefs::without_records(alloc, None)?;
-    let request = Request::read(alloc, request.as_bytes(), ARCH)?;
-    let asks_all_versions = request.asks_all_versions();
-    let goals = request.into_vec();
-    let start = view(alloc, records, packages)?;
-    match build(alloc, records, &[], &prefs, goals, asks_all_versions) {
-        Ok(universe) => ordered_on(alloc, &start, &universe, selection),
-        Err(_) => Err(Fail::new("no universe")),
-    }
-}
-
-// The same from this status file on.
-fn ordered_from(
-    alloc: Global,
-    status_file: &StatusFile<'_>,
-    request: &str,
-    selection: &[u32],
-) -> Result<Ordered, Fail> {
-    let records = status_file.records(alloc)?;
-    let packages = parse_packages(alloc, records.as_slice())?;
-    ordered_with(
-        alloc,
-        records.as_slice(),
-        packages.as_slice(),
-        request,
-        selection,
-    )
-}
-
 // The same from the text of a status file on.
 fn ordered(
     alloc: Global,
@@ -81,48 +58,35 @@ fn ordered(
     selection: &[u32],
 ) -> Result<Ordered, Fail> {
     let status_file = StatusFile::read(alloc, status, ARCH)?;
-    ordered_from(alloc, &status_file, request, selection)
-}
-
-const UNMET: &[u8] =
-    b"Package: a\nStatus: install ok installed\nVersion: 1\nArchitecture: all\nDepends: b\n";
-
-#[test]
-fn what_depends_on_nothing_there_is_stuck_without_a_step(rt: HostRuntime) -> Result<(), Fail> {
-    let found = ordered(rt.alloc(), UNMET, "", &[1])?;
-    assert!(rt; said_of(&found) == ("stuck", 0));
-    Ok(())
-}
-
-const ESSENTIAL: &[u8] = b"\
-Package: b\nStatus: install ok unpacked\nVersion: 1\nArchitecture: all\n\n\
-Package: e\nStatus: install ok installed\nVersion: 1\nArchitecture: all\nEssential: yes\n";
-
-#[test]
-fn what_can_be_configured_is_before_an_essential_package_stays(
-    rt: HostRuntime,
-) -> Result<(), Fail> {
-    let found = ordered(rt.alloc(), ESSENTIAL, "", &[1])?;
-    assert!(rt; said_of(&found) == ("stuck", 1));
-    Ok(())
-}
-
-const TWO: &[u8] = b"\
-Package: a\nStatus: install ok installed\nVersion: 1\nArchitecture: all\n\n\
-Package: b\nStatus: install ok installed\nVersion: 1\nArchitecture: all\n";
-
-fn removes(step: Option<&Step>, wanted: &[u8]) -> bool {
-    match step {
-        Some(Step::Remove(name)) => name.as_bytes() == wanted,
-        _ => false,
+    let records = status_file.records(alloc)?;
+    let packages = parse_packages(alloc, records.as_slice())?;
+    let start = view(alloc, records.as_slice(), packages.as_slice())?;
+    let prefs = Prefs::without_records(alloc, None)?;
+    let goals = Request::read(alloc, request.as_bytes(), ARCH)?.into_vec();
+    match build(alloc, records.as_slice(), &[], &prefs, goals, false) {
+        Ok(universe) => ordered_on(alloc, &start, &universe, selection),
+        Err(_) => Err(Fail::new("no universe")),
     }
 }
 
+fn is_ordered(alloc: Global, row: &str) -> Result<bool, Fail> {
+    let mut columns = row.split('→');
+    let status = stanzas_in(alloc, columns.next().unwrap_or(""))?;
+    let request = format!(in alloc; "{}\n", columns.next().unwrap_or(""))?;
+    let selection = numbers_in(alloc, columns.next().unwrap_or(""))?;
+    let found = ordered(
+        alloc,
+        status.as_bytes(),
+        request.as_str(),
+        selection.as_slice(),
+    )?;
+    Ok(said_of(alloc, &found)?.as_str() == columns.next().unwrap_or(""))
+}
+
 #[test]
-fn what_is_selected_is_never_removed(rt: HostRuntime) -> Result<(), Fail> {
-    let Ordered::Plan(steps) = ordered(rt.alloc(), TWO, "remove b\n", &[1])? else {
-        return Err(Fail::new("no plan"));
-    };
-    assert!(rt; steps.len() == 1 && removes(steps.as_slice().first(), b"b"));
+fn selections_are_put_in_order_as_worked_by_hand(rt: HostRuntime) -> Result<(), Fail> {
+    for row in ROWS.lines() {
+        assert!(rt; is_ordered(rt.alloc(), row)?, "{row}");
+    }
     Ok(())
 }

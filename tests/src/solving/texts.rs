@@ -1,4 +1,4 @@
-//! Clauses as rows spell them. Literals are parted by spaces, clauses by commas. A row has in its first column the clauses
+//! Numbers, stanzas and clauses as rows spell them. Literals are parted by spaces, clauses by commas. A row has in its first column the clauses
 //! without an owner, in its second those by which numbers depend on others, each with its owner's negation in front and
 //! the owners ascending, in its third the further clauses, and in its fourth the wishes.
 use clauses::Clauses;
@@ -85,4 +85,45 @@ pub(crate) fn clauses_in(alloc: Global, row: &str) -> Result<Clauses, AllocError
     add_clauses(&mut given, columns.next().unwrap_or(""))?;
     add_wishes(&mut given, columns.next().unwrap_or(""))?;
     Ok(given)
+}
+
+/// Whether a list of numbers is the one that the words spell.
+pub(crate) fn are_numbers(numbers: &[u32], words: &str) -> bool {
+    let mut left = numbers.iter();
+    for word in words.split_whitespace() {
+        if left.next().copied() != word.parse::<u32>().ok() {
+            return false;
+        }
+    }
+    left.next().is_none()
+}
+
+/// The numbers that words spell.
+pub(crate) fn numbers_in(alloc: Global, words: &str) -> Result<Vec<u32>, AllocError> {
+    words.split_whitespace().map(number_in).collect(alloc)
+}
+
+// The fields of a stanza of version 1 that words begin: a name, or a state and a name.
+fn head_in(alloc: Global, words: &str) -> Result<String, AllocError> {
+    match words.split_once(' ') {
+        Some((state, name)) => format!(in alloc;
+            "Package: {name}\nStatus: install ok {state}\nVersion: 1\nArchitecture: all\n"
+        ),
+        None => format!(in alloc; "Package: {words}\nVersion: 1\nArchitecture: all\n"),
+    }
+}
+
+/// The stanzas that a text spells, parted by commas: `foo` or `installed foo`, with further fields behind semicolons.
+pub(crate) fn stanzas_in(alloc: Global, text: &str) -> Result<String, AllocError> {
+    let mut stanzas = String::new(alloc);
+    for words in text.split(", ") {
+        let mut parts = words.split("; ");
+        stanzas.push_str(head_in(alloc, parts.next().unwrap_or(""))?.as_str())?;
+        for field in parts {
+            stanzas.push_str(field)?;
+            stanzas.push_str("\n")?;
+        }
+        stanzas.push_str("\n")?;
+    }
+    Ok(stanzas)
 }
