@@ -5,6 +5,8 @@
 
 mod callers;
 #[cfg(test)]
+mod collecting;
+#[cfg(test)]
 mod files;
 #[cfg(test)]
 mod hosts;
