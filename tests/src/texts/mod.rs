@@ -1,7 +1,6 @@
 //! Text: stanzas, versions, relations, requests, plans and refutations. Each public call of their readers and writers, and each refused
 //! growth. What a command line shows of such texts stands in the folder `scenarios`.
 mod codes;
-mod collecting;
 mod fields;
 mod packages;
 mod plans;
