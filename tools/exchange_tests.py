@@ -152,8 +152,9 @@ def of_settings():
         yield None if status == 0 and said.startswith(f"{tool}: ") else f"{tool} --help: {status}, {said}"
         bad = scenario("solver", "Install: a", [f"a 1; {OFFER}"]).replace("Architectures:", "Architectures")
         yield small.differs(f"{tool} of a line without a colon", asked(room, tool, bad), (0, f"{ERROR}a stanza: line 3 is no field: Architectures amd64\n"))
-        yield small.differs(f"{tool} without a program", asked(room, tool, scenario(tool[4:], "Install: a", [f"a 1; {OFFER}"]), DEBPLAN="/nowhere"),
-                            (0, f"{ERROR}debplan is missing, /nowhere is no program: ..\n"))
+        yield small.differs(f"{tool} without a program", asked(room, tool, scenario(tool[4:], "Install: a", [f"a 1; {OFFER}"]),
+                                                                     DEBPLAN=str(room / "none")),
+                            (0, f"{ERROR}debplan is missing, ROOM/none is no program: ..\n"))
     text = scenario("solver", "Install: a", [f"a 1; {OFFER}; Recommends: b", f"b 2; {OFFER}"])
     for room, (env, wanted) in in_rooms([({"DEBPLAN_RECOMMENDS": "no"}, install("1 a 1")),
                                          ({"DEBPLAN_SECONDS": "-1"}, f"{ERROR}debplan was stopped: the time is over (DEBPLAN_SECONDS)\n")]):

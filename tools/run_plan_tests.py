@@ -285,8 +285,9 @@ def of_links():
         run(room, Stand(room / "root"))
         yield None if small.text_in(room / "root" / POLICY) == text else "a policy that was there is another one"
     for room, _ in in_rooms(["dangling"]):
-        (room / "root" / POLICY).symlink_to("/nowhere")
+        (room / "root" / POLICY).symlink_to(room / "nowhere")
         yield small.differs("a run with a policy that leads nowhere", run(room, Stand(room / "root")), (1, "..is a link that leads nowhere, ..\n"))
+        yield "a policy was written where the link leads" if (room / "nowhere").exists() else None
 
 
 # A root from nothing, by the dpkg of this machine
