@@ -208,7 +208,7 @@ TEXTS = {
     "next-sources": "File: next\nSuite: testing\n", "both-sources": "File: index\n\nFile: other\n",
     "far": "Package: top\nVersion: 1\nArchitecture: all\nDepends: app\n", "far-sources": "File: far\n\nFile: index\n",
     "changing-sources": "File: changing-index\n", "changing-index": INDEX, "again": INDEX,
-    "below-sources": "File:\n index\nSuite: testing\n", "again-sources": "# testing\nFile: again\nSuite: testing\n", "named-sources": "File: index\nSuite: stable\n",
+    "\n index": INDEX, "below-sources": "File:\n index\nSuite: testing\n", "again-sources": "# testing\nFile: again\nSuite: testing\n", "named-sources": "File: index\nSuite: stable\n",
     "replaced-1": "checked 3, broken 0\n", "replaced-1.inputs": "shard\t1/2\noutput\tx\n",
     "strange-1": "checked 3, broken 0\n", "strange-1.inputs": "{}\n", "bare-2": WHOLE.replace("checked 6", "checked 3"),
     "other-sources": "File: other\n", "newer": f"{APP}\n{REST}",
@@ -336,7 +336,7 @@ CALLS = [
     (f"verify none -- {ASKING}", 0, "", ""),
 ]
 # What these calls leave.
-WRITTEN = {"next": NEXT, "below/indices": INDICES, "kept/other_1.request": "install other (= 1)\n", "report/other_1/request": "install other (= 1)\n",
+WRITTEN = {"next": NEXT, "below/indices": INDICES.replace("index", "\\n index"), "kept/other_1.request": "install other (= 1)\n", "report/other_1/request": "install other (= 1)\n",
            "report/other_1/refutation": "..", "report/other_1/sentences": "..nowhere..", "report/other_1/indices": INDICES,
            "report/other_1/relations": "depends\tnowhere\tother 1\n", "report/indices": INDICES, "report/when": "2..Z\n",
            "report/survey": WHOLE, "none/survey": "checked 1, broken 0\n",

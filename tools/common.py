@@ -257,8 +257,8 @@ def fields_of(text, place="a stanza"):
 
 
 def indices_in(path):
-    """The stanzas of a sources file that name an index; a path may begin on the line below `File`."""
-    return [{**keys, "File": keys["File"].strip()} for keys in stanzas_in(path) if "File" in keys]
+    """The stanzas of a sources file that name an index. A path that begins on the line below `File` begins with a newline."""
+    return [keys for keys in stanzas_in(path) if "File" in keys]
 
 
 def names_without(arch, value):

@@ -24,7 +24,7 @@ SURVEY, WHEN = "survey", "when"
 REFUSED = (3, 4, 5)
 # What check-refutation says of a refutation, its sentences, and the relations at which the package fails.
 Verdict = namedtuple("Verdict", "said sentences relations")
-# An index: the SHA256 of its file, and its release keys and its path as the sources file has them.
+# An index: the SHA256 of its file, and its release keys and its path as the sources file has them, with `\n` for a newline in it.
 Index = namedtuple("Index", "sum suite codename path")
 
 
@@ -125,7 +125,7 @@ def indices_of(sources):
     found = []
     for keys in common.indices_in(sources):
         names = [" ".join(keys.get(name, "").split()) or "-" for name in ("Suite", "Codename")]
-        found.append(Index(common.sha256_of(keys["File"]), *names, keys["File"]))
+        found.append(Index(common.sha256_of(keys["File"]), *names, keys["File"].replace("\n", "\\n")))
     return found
 
 
@@ -158,7 +158,7 @@ def write_report(asking, survey, when, folder, report):
     try:
         indices = indices_of(asking.needed("--sources"))
         texts = {INDICES: "".join("\t".join(index) + "\n" for index in indices)}
-        stanzas = stanzas_of([index.path for index in indices], broken, asking.needed("--arch"))
+        stanzas = stanzas_of([keys["File"] for keys in common.indices_in(asking.needed("--sources"))], broken, asking.needed("--arch"))
         report.mkdir(parents=True, exist_ok=True)
         with Judge(asking) as judge:
             for line in broken:

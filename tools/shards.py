@@ -22,10 +22,10 @@ SECONDS = 0.05
 HEAD = 4
 # How a run of the program ended: its status, and the texts of its two outputs.
 Ended = namedtuple("Ended", "status printed said")
-# The options that name a file, and the line of a sources file that does (docs/FORMATS.md, section 4). The path may begin on the line
-# below; where it is continued it names no file.
+# The options that name a file, and the line of a sources file that does (docs/FORMATS.md, section 4). Where it is continued it names
+# no file.
 NAMING = ("--status", "--sources", "--preferences")
-FILE = re.compile(rb"^(file:[ \t]*(?:\n[ \t]+)?)([^ \t\n][^\n]*?)([ \t]*)$(?!\n[ \t]+[^ \t\n])", re.IGNORECASE | re.MULTILINE)
+FILE = re.compile(rb"^(file:[ \t]*)([^ \t\n][^\n]*?)([ \t]*)$(?!\n[ \t]+[^ \t\n])", re.IGNORECASE | re.MULTILINE)
 # What stands for the sum of a file that can't be read. It names no file, so the program says of it what it says of any such file.
 UNREADABLE = "unreadable"
 # A file that is read: what it is (an option, or `index N`), the SHA256 of what is in it, its path, and its bytes where these aren't
