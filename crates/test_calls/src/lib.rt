@@ -13,9 +13,9 @@ mod hosts;
 #[cfg(test)]
 mod journals;
 #[cfg(test)]
-mod questions;
-#[cfg(test)]
 mod readers;
+#[cfg(test)]
+mod requests;
 #[cfg(test)]
 mod writers;
 
