@@ -1,4 +1,4 @@
-"""Asks which of these packages can be installed, and of the first one that can in what order, each question behind the reply before."""
+"""Asks which of these packages can be installed, and of the first one that can in what order, each question after the reply before."""
 import json
 import subprocess
 
