@@ -19,7 +19,8 @@ import subprocess
 import sys
 import tempfile
 
-sys.path.insert(0, str(pathlib.Path(__file__).resolve().parent.parent / "tools"))
+sys.path.insert(0, str(pathlib.Path(__file__).resolve().parent.parent / "dev"))
+sys.path.insert(1, str(pathlib.Path(__file__).resolve().parent.parent / "tools"))
 import changes  # noqa: E402
 import common  # noqa: E402
 import documents  # noqa: E402

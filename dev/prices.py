@@ -13,7 +13,7 @@ import threading
 KINDS = ("proofs", "edits", "tests")
 # Where the last whole gate of a checkout keeps its prices, where that of any checkout of this machine does, and those of the run
 # that docs/ARCHITECTURE.md tells of.
-KEPT, MEASURED = pathlib.Path("out/gate.json"), pathlib.Path("tools/minutes.json")
+KEPT, MEASURED = pathlib.Path("out/gate.json"), pathlib.Path("dev/minutes.json")
 OF_MACHINE = pathlib.Path(os.environ.get("XDG_CACHE_HOME") or pathlib.Path.home() / ".cache", "debplan", "gate.json")
 TICKS = os.sysconf("SC_CLK_TCK")
 EDIT = re.compile(r"/rt-edits?-")

@@ -1,4 +1,4 @@
-"""Changes of texts by chance, for tools/fuzz. Each is a function from a `random.Random`, the text, and the texts of the other
+"""Changes of texts by chance, for dev/fuzz. Each is a function from a `random.Random`, the text, and the texts of the other
 files, from which words are taken, to the changed text; of an empty text it makes one of a few bytes. All draw from the chance
 that they are given and from nothing else."""
 import re

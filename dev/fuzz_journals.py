@@ -1,4 +1,4 @@
-"""Journals for tools/fuzz: how one is made for a plan, how its bytes are changed, and what `apply` has to say of it."""
+"""Journals for dev/fuzz: how one is made for a plan, how its bytes are changed, and what `apply` has to say of it."""
 import re
 
 import mutations

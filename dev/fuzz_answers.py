@@ -1,4 +1,4 @@
-"""What the program may print and with which exit status, by docs/FORMATS.md: for tools/fuzz."""
+"""What the program may print and with which exit status, by docs/FORMATS.md: for dev/fuzz."""
 import collections
 import re
 

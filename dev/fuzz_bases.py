@@ -1,4 +1,4 @@
-"""What tools/fuzz changes: whole calls of the program over texts, of the scenarios and of real inputs."""
+"""What dev/fuzz changes: whole calls of the program over texts, of the scenarios and of real inputs."""
 import functools
 import pathlib
 import re
