@@ -20,7 +20,7 @@ import sys
 import tempfile
 
 sys.path.insert(0, str(pathlib.Path(__file__).resolve().parent.parent / "dev"))
-sys.path.insert(1, str(pathlib.Path(__file__).resolve().parent.parent / "tools"))
+sys.path.insert(1, str(pathlib.Path(__file__).resolve().parent.parent / "python"))
 from debplan import control
 from debplan.machine import changes, reasons
 from debplan.machine.database import Database

@@ -14,22 +14,20 @@ class Failure(Exception):
 
 
 class Words(argparse.ArgumentParser):
-    """The words of a command line. The head of the tool is its help; wrong words end with status 64."""
+    """The words of a command line. The head of the tool says above and below its options what it does; wrong words end with status 64."""
 
-    def __init__(self, head):
-        self.head = head
-        super().__init__(prog=tool_name(), allow_abbrev=False, add_help=False)
-        self.add_argument("--help", action="store_true")
+    def __init__(self, head, prog=None):
+        about, _, more = head.strip().partition("\n\n")
+        super().__init__(prog=prog or tool_name(), description=about, epilog=more, allow_abbrev=False, add_help=False,
+                         formatter_class=argparse.RawDescriptionHelpFormatter)
+        self.add_argument("--help", action="help", help="print this")
 
     def read(self, words, mixed=False):
         """The words as options and values; where they may be mixed, options stand between the values too."""
-        if "--help" in words:
-            print(self.head)
-            sys.exit(0)
         return self.parse_intermixed_args(words) if mixed else self.parse_args(words)
 
     def error(self, message):
-        print(f"{self.prog}: {message}\n{self.head.partition(':')[0]}", file=sys.stderr)
+        print(f"{self.prog}: {message}\n{self.format_usage()}", end="", file=sys.stderr)
         sys.exit(64)
 
 

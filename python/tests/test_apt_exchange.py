@@ -148,7 +148,7 @@ def of_settings():
         status, said = small.call(room, tool, "word")
         yield None if status == 64 and said.startswith(f"{tool}: ") else f"{tool} word: {status}, {said}"
         status, said = small.call(room, tool, "--help")
-        yield None if status == 0 and said.startswith(f"{tool}: ") else f"{tool} --help: {status}, {said}"
+        yield None if status == 0 and said.startswith(f"usage: {tool} ") else f"{tool} --help: {status}, {said}"
         bad = scenario("solver", "Install: a", [f"a 1; {OFFER}"]).replace("Architectures:", "Architectures")
         yield small.differs(f"{tool} of a line without a colon", asked(room, tool, bad), (0, f"{ERROR}a stanza: line 3 is no field: Architectures amd64\n"))
         yield small.differs(f"{tool} without a program", asked(room, tool, scenario(tool[4:], "Install: a", [f"a 1; {OFFER}"]),

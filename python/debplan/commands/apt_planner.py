@@ -1,4 +1,4 @@
-"""apt-planner: a planner for apt (EIPP 0.1), which puts what apt has chosen into an order of dpkg's actions.
+"""A planner for apt (EIPP 0.1), which puts what apt has chosen into an order of dpkg's actions.
 
   apt-get -o APT::Planner=debplan install hello          debplan orders, and its plan is judged
   apt-get -o APT::Planner=debplan-check dist-upgrade     apt's own planner orders, and debplan judges that order
@@ -199,10 +199,13 @@ def planned(data, folder, checks):
     return judged(order_of_apt(data), scenario, inputs) if checks else ordered(scenario, inputs)
 
 
+def parser():
+    """The words of the command, which has none but --help."""
+    return tool.Words(__doc__)
+
+
 def main(words):
-    if words:
-        print(__doc__, file=sys.stderr if words != ["--help"] else sys.stdout)
-        return 0 if words == ["--help"] else 64
+    parser().read(words)
     data = sys.stdin.buffer.read()
     with tempfile.TemporaryDirectory(prefix="debplan-") as room:
         folder = pathlib.Path(os.environ.get("DEBPLAN_FOLDER") or room)

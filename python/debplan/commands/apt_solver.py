@@ -1,4 +1,4 @@
-"""apt-solver: a solver for apt (EDSP 0.5), which asks debplan what is to be installed and removed.
+"""A solver for apt (EDSP 0.5), which asks debplan what is to be installed and removed.
 
   apt-get -s --solver debplan install hello
 
@@ -358,10 +358,13 @@ def solved(data, folder):
     return answer_of(scenario, steps)
 
 
+def parser():
+    """The words of the command, which has none but --help."""
+    return tool.Words(__doc__)
+
+
 def main(words):
-    if words:
-        print(__doc__, file=sys.stderr if words != ["--help"] else sys.stdout)
-        return 0 if words == ["--help"] else 64
+    parser().read(words)
     data = sys.stdin.buffer.read()
     progress(10, "debplan reads the scenario")
     with tempfile.TemporaryDirectory(prefix="debplan-") as room:

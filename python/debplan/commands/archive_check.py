@@ -1,4 +1,4 @@
-"""archive-check COMMAND ..: which packages of an archive can't be installed, by `debplan installable`, with all processors and over time.
+"""Which packages of an archive can't be installed, by `debplan installable`, with all processors and over time.
 
   archive-check run OPTIONS.. [NAME..] [--report DIR] [--scheduler ADDRESS [--hand-over] [--shards N]]
                               asks by a process for each processor, each of one shard, and prints what `debplan installable` prints
@@ -113,19 +113,101 @@ def number_in(name, options, default=shards.processors()):
     return int(word)
 
 
-def read(command, words, *arguments):
+def read(command, words):
     """The options of a command, and what stands behind the first `--`, as the words of a call of `debplan installable`."""
     at = words.index("--") if "--" in words else len(words)
-    options = tool.Words(__doc__)
-    options.prog += f" {command}"
-    options.add_argument("--processors")
-    for name, how in arguments:
-        options.add_argument(name, **how)
-    found = options.read(words[:at], mixed=True)
+    found = words_of(command).read(words[:at], mixed=True)
     found.processors, found.asking = number_in("--processors", {"--processors": found.processors}), Asking(words[at + 1:])
     if found.asking.names or found.asking.has("--shard"):
         raise Failure(f"{command}: behind -- stand OPTIONS, without NAMEs and --shard", 64)
     return found
+
+
+def words_of(command):
+    """The words of a command."""
+    about, add = ABOUT[command]
+    options = tool.Words(about, f"{tool.tool_name()} {command}")
+    add(options)
+    return options
+
+
+def add_of_run(options):
+    """The options of run. They stand between those of `debplan installable`, so Asking reads them."""
+    add_processors(options)
+    options.add_argument("--report", metavar="DIR", help="write a folder for each broken package into DIR")
+    options.add_argument("--shard", metavar="K/N", help="ask about one shard, with --output")
+    options.add_argument("--output", metavar="FILE", help="where the output of a shard is written")
+    options.add_argument("--scheduler", metavar="ADDRESS", help="have the shards run by the workers of a scheduler of Dask")
+    options.add_argument("--shards", metavar="N", help="how many shards the workers run (default: four for each thread of a worker)")
+    options.add_argument(HAND_OVER, action="store_true", help="hand the program and the inputs to the workers")
+    for name, what in zip(CERTIFICATES, ("a certificate authority", "a certificate", "its key")):
+        options.add_argument(name, metavar="FILE", help=f"{what} in PEM, for a scheduler tls://..")
+    options.add_argument("options", nargs="*", metavar="OPTION", help="the options of debplan installable, and names")
+
+
+def add_processors(options):
+    options.add_argument("--processors", metavar="P", help="how many processes run at once (default: the number of processors)")
+
+
+def add_of_merge(options):
+    add_processors(options)
+    options.add_argument("files", nargs="+", metavar="FILE", help="the outputs of all shards, 1/N to N/N in this order")
+
+
+def add_of_compare(options):
+    add_processors(options)
+    options.add_argument("old", metavar="OLD", help="an output")
+    options.add_argument("new", metavar="NEW", help="another one")
+    options.add_argument("--refutations", metavar="DIR", help="the folder of the refutations of NEW, of which sentences are told")
+    for name, of in (("--old-index", "OLD"), ("--new-index", "NEW")):
+        options.add_argument(name, nargs="+", action="extend", metavar="FILE", help=f"the indices that {of} is about")
+
+
+def add_of_migrate(options):
+    add_processors(options)
+    options.add_argument("--index", required=True, metavar="FILE", help="the index whose packages are taken out")
+    options.add_argument("--from", required=True, dest="other", metavar="FILE", help="the index that has those that are put in")
+    options.add_argument("--output", required=True, metavar="FILE", help="the index that is written")
+    options.add_argument("--check", action="store_true", help="ask what can be installed then, with the OPTIONS behind --")
+    options.add_argument("sources", nargs="+", metavar="SOURCE", help="the sources whose packages are exchanged")
+
+
+def add_of_verify(options):
+    add_processors(options)
+    options.add_argument("folder", type=pathlib.Path, metavar="FOLDER", help="a report, or a folder of one")
+
+
+def add_of_pages(options):
+    options.add_argument("runs", nargs="+", metavar="REPORT", help="reports of run")
+    options.add_argument("--output", type=pathlib.Path, required=True, metavar="DIR", help="the folder of the pages, which is replaced")
+    options.add_argument("--title", default="Packages that can't be installed", metavar="TEXT", help="the title of the pages")
+
+
+# What the commands are for, and their options.
+ABOUT = {
+    "run": ("Asks in shards, or about one shard, and prints what debplan installable prints.", add_of_run),
+    "merge": ("Prints the whole from the outputs of all shards.", add_of_merge),
+    "compare": ("Says what two outputs say differently.", add_of_compare),
+    "migrate": ("Writes the index with the packages of some sources exchanged, and asks what can be installed then.", add_of_migrate),
+    "verify": ("Has a report judged again.", add_of_verify),
+    "pages": ("Writes pages on what is broken, of reports.", add_of_pages),
+}
+
+
+def parser():
+    """The words of the command."""
+    options = tool.Words(__doc__)
+    parts = options.add_subparsers(dest="command", metavar="COMMAND", required=True, parser_class=PartWords)
+    for command, (about, add) in ABOUT.items():
+        add(parts.add_parser(command, about=about, help=about))
+    return options
+
+
+class PartWords(tool.Words):
+    """The words of one command."""
+
+    def __init__(self, prog, about):
+        super().__init__(about, prog)
 
 
 # Asking
@@ -134,7 +216,7 @@ def read(command, words, *arguments):
 def run(words):
     """Asks in shards, and prints the whole; or asks about one shard."""
     if "--help" in words:
-        tool.Words(__doc__).read(["--help"])
+        words_of("run").read(["--help"])
     asking = Asking(words, OWN)
     own = {**asking.own, **{HAND_OVER: None for name, _ in asking.options if name == HAND_OVER}}
     asking.options = [option for option in asking.options if option[0] != HAND_OVER]
@@ -216,7 +298,7 @@ def put(text):
 
 def merge(words):
     """Merges the outputs of all shards."""
-    options = read("merge", words, ("files", {"nargs": "+"}))
+    options = read("merge", words)
     found = [surveys.survey_in(path) for path in options.files]
     bare = surveys.check_inputs(options.files)
     text = surveys.merged(found, options.files).text()
@@ -231,8 +313,7 @@ def merge(words):
 
 def compare(words):
     """Compares two outputs."""
-    files = {"nargs": "+", "action": "extend"}
-    options = read("compare", words, ("old", {}), ("new", {}), ("--refutations", {}), ("--old-index", files), ("--new-index", files))
+    options = read("compare", words)
     if options.refutations:
         options.asking.needed("--arch"), options.asking.needed("--sources")
     old, new = surveys.survey_in(options.old), surveys.survey_in(options.new)
@@ -257,8 +338,7 @@ def pairs_in(paths):
 
 def migrate(words):
     """Writes the index that would be, and has asked what changes by it."""
-    options = read("migrate", words_of_migrate(words), ("--index", {"required": True}), ("--from", {"required": True, "dest": "other"}),
-                   ("--output", {"required": True}), ("--check", {"action": "store_true"}), ("sources", {"nargs": "+"}))
+    options = read("migrate", words_of_migrate(words))
     if any(os.path.exists(options.output) and os.path.samefile(path, options.output) for path in (options.index, options.other)):
         raise Failure(f"{options.output}: is read, so it can't be the output", 64)
     changed = exchange.Exchange(options.index, options.other, options.sources)
@@ -281,7 +361,7 @@ def words_of_migrate(words):
 
 def verify(words):
     """Has the refutations of a report judged again."""
-    options = read("verify", words, ("folder", {"type": pathlib.Path}))
+    options = read("verify", words)
     options.asking.needed("--arch")
     folders = reports.folders_in(options.folder)
     indices = reports.indices_of(options.asking.needed("--sources"))
@@ -299,12 +379,7 @@ def verify(words):
 
 def write_pages(words):
     """Writes pages on what is broken, of the reports of some runs."""
-    options = tool.Words(__doc__)
-    options.prog += " pages"
-    options.add_argument("runs", nargs="+")
-    options.add_argument("--output", type=pathlib.Path, required=True)
-    options.add_argument("--title", default="Packages that can't be installed")
-    found = options.read(words, mixed=True)
+    found = words_of("pages").read(words, mixed=True)
     pages.write(found.output, found.runs, found.title)
     return 0
 
@@ -316,11 +391,10 @@ def main(words):
     for stream in (sys.stdout, sys.stderr):
         stream.reconfigure(encoding="utf-8", errors="surrogateescape")
     signal.signal(signal.SIGTERM, lambda *_: sys.exit(143))
-    options = tool.Words(__doc__)
-    options.add_argument("command", choices=COMMANDS)
-    command = options.read(words[:1]).command
+    if not words or words[0] not in COMMANDS:
+        parser().read(words[:1])
     try:
-        return COMMANDS[command](words[1:])
+        return COMMANDS[words[0]](words[1:])
     except shards.Refused as refused:
         print(refused, end="", file=sys.stderr)
         return refused.status

@@ -1,4 +1,4 @@
-"""ask [OPTION..] GOAL..: asks debplan for a plan for this machine, in one command, and changes nothing on it.
+"""Asks debplan for a plan for this machine, in one command, and changes nothing on it.
 
   ask install cowsay                  what `install`, `upgrade`, `remove` and `purge` name stands in a row
   ask install gcc=4:12.2.0-3 'libc6>=2.36' remove cowsay
@@ -20,23 +20,10 @@ with names and versions, and which other version or release may help. The folder
 and `plan` for run-plan.
 Where a pin of the machine had to be left out, a line behind each answer says so; another one where a pin matches nothing in the
 lists that matched something before, or is new.
-Options:
-  --explain          behind the plan the program's sentences on it, as why each package is removed, one name a line
-  --keep-back        what can't be fulfilled is left out and named, also of what is asked for by name
-  --strict           nothing is kept back by `upgrade-all`
-  --recommends       what new packages recommend is asked for too, of each clause the first alternative with which there is a plan
-                     that removes nothing more and still installs what was found, and so on with what came in. What came and what
-                     was left out, and why, is said; the file `request` has the goals
-  --all-versions     choose among all versions that may be chosen, and not among candidates alone
-  -t, --target REL   a release to prefer, by default that of apt's setting APT::Default-Release; it has to be one that apt has a list
-                     of
-  --format json      on standard output the answer as one line of JSON, with the URI of each package (docs/FORMATS.md, section 19)
-  --limit N          as for debplan
-  --root ROOT        another system in the folder ROOT
-  --inputs DIR       nothing is collected: the folder of inputs DIR is asked about as it is
-  --folder DIR       in place of the cache folder $XDG_CACHE_HOME/debplan/inputs, or ~/.cache/debplan/inputs, of which each ROOT has
-                     its own
-  --pins-left-out    that a plan without the pins that were left out will do
+With --recommends each clause of Recommends is met by the first alternative with which there is a plan that removes nothing more
+and still installs what was found, and so on with what came in. What came and what was left out, and why, is said; the file
+`request` has the goals.
+
 Environment: ARCH, STATUS, APT_CONFIG, as for collect-inputs; DEBPLAN, the program.
 Exit status: that of `debplan solve` (0 a plan, 1 refuted, 2 undecided, 3 an input is refused), 1 too where apt's lists have no such
 package or a name that was asked for would be kept back, 6 for a plan where pins are left out and --pins-left-out isn't given, 64 for
@@ -110,17 +97,38 @@ def request_of(words, arch):
     return goals
 
 
-def options_in(words):
+# The options without a value.
+FLAGS = {
+    "--explain": "behind the plan the sentences on it, as why each package is removed, one name a line",
+    "--keep-back": "leave out and name what can't be fulfilled, also of what is asked for by name",
+    "--strict": "keep nothing back by upgrade-all",
+    "--recommends": "ask for what new packages recommend too",
+    "--all-versions": "choose among all versions that may be chosen, and not among candidates alone",
+    "--pins-left-out": "accept a plan without the pins that were left out",
+}
+
+
+def parser():
+    """The words of the command."""
     options = tool.Words(__doc__)
-    options.add_argument("-t", "--target")
-    options.add_argument("--limit", type=int)
-    for name in ("--root", "--folder", "--inputs"):
-        options.add_argument(name)
-    options.add_argument("--format", choices=("text", "json"), default="text")
-    for name in ("--explain", "--keep-back", "--strict", "--recommends", "--all-versions", "--pins-left-out"):
-        options.add_argument(name, action="store_true")
-    options.add_argument("goals", nargs="*")
-    options = options.read(words, mixed=True)
+    options.add_argument("-t", "--target", metavar="RELEASE", help="a release to prefer, of which apt has a list (default: "
+                         "that of apt's setting APT::Default-Release)")
+    options.add_argument("--limit", type=int, metavar="N", help="how many conflicts the search may meet")
+    options.add_argument("--root", metavar="ROOT", help="ask for another system in the folder ROOT")
+    options.add_argument("--folder", metavar="DIR", help="where the inputs are collected, in place of the cache folder "
+                         "$XDG_CACHE_HOME/debplan/inputs or ~/.cache/debplan/inputs, of which each ROOT has its own")
+    options.add_argument("--inputs", metavar="DIR", help="collect nothing, and ask about the folder of inputs DIR as it is")
+    options.add_argument("--format", choices=("text", "json"), default="text", help="json: the answer as one line of JSON, "
+                         "with the URI of each package (docs/FORMATS.md, section 19)")
+    for name, what in FLAGS.items():
+        options.add_argument(name, action="store_true", help=what)
+    options.add_argument("goals", nargs="*", metavar="GOAL", help="install, upgrade, remove or purge and names of packages; "
+                         "upgrade-all; no-remove")
+    return options
+
+
+def options_in(words):
+    options = parser().read(words, mixed=True)
     if options.strict and options.keep_back:
         raise Failure("--strict and --keep-back are the opposite of each other", 64)
     if options.inputs and (options.root or options.folder):

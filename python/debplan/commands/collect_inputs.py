@@ -1,4 +1,4 @@
-"""collect-inputs [OPTION..] DIR: writes what debplan reads of a machine into DIR:
+"""Writes what debplan reads of a machine into DIR:
 
   index-1.Packages ..  the Packages files of apt's lists, uncompressed, in the order of apt's sources
   sources              the sources file, which names them with their release keys, and for the tools with the URI of the archive, the
@@ -22,8 +22,8 @@ where it stands and why, and so does the file DIR/pins-left-out, where there is 
 missing, and is said too. A pin that matches nothing in the lists is told, and stands in the file DIR/pins-unmatched; where it
 matched nothing at the last collection into DIR either, it isn't told again. Nothing outside of DIR is written. The paths in
 `sources` are whole, so DIR has to stay where it is.
-Options: --root ROOT; --no-pins, without the pins of the machine, as for an image that others use; --if-changed, nothing is done
-where apt's lists, sources, pins and settings and the status file are as they were, which DIR/collected says.
+DIR/collected says what all this was collected of.
+
 Environment: ARCH (default: that of dpkg); STATUS, a status file (default: that of apt; /dev/null: nothing is installed).
 Exit status: 0, 1 where a pin was left out or something can't be read or written, 64 for wrong words, 69 where apt or dpkg is
 missing and no ROOT is named."""
@@ -34,17 +34,19 @@ from debplan.machine import collect
 from debplan.machine.system import Machine
 
 
-def options_in(words):
+def parser():
+    """The words of the command."""
     options = tool.Words(__doc__)
-    options.add_argument("--root")
-    options.add_argument("--if-changed", action="store_true")
-    options.add_argument("--no-pins", action="store_true")
-    options.add_argument("folder")
-    return options.read(words)
+    options.add_argument("--root", metavar="ROOT", help="the system in the folder ROOT, in place of this machine")
+    options.add_argument("--if-changed", action="store_true", help="do nothing if apt's lists, sources, pins and settings and the "
+                         "status file are as they were at the last collection into DIR")
+    options.add_argument("--no-pins", action="store_true", help="without the pins of the machine, as for an image that others use")
+    options.add_argument("folder", metavar="DIR", help="the folder that is written")
+    return options
 
 
 def main(words):
-    options = options_in(words)
+    options = parser().read(words)
     machine = Machine(options.root)
     collect.check(machine)
     write = collect.collect_if_changed if options.if_changed else collect.collect_anew

@@ -1,4 +1,4 @@
-"""image COMMAND ..: the root of a system from nothing, and the lock file that makes it again.
+"""The root of a system from nothing, and the lock file that makes it again.
 
   image request DIR [NAME..]         writes DIR/request: the packages that an index of DIR marks `Essential: yes`, and NAME..; with
                                      --recommends also what the new packages of its plan recommend
@@ -25,14 +25,9 @@ the same archive, and no other option. docs/FORMATS.md has the lock file. `open`
 an opened lock file. Where an archive doesn't have a file any more, it is got from the base URI that the field Snapshot of its index
 has in DIR/sources or the lock file; without one that is said, with the index's date and where the file may still be. A plan whose
 start isn't an empty status file is locked with the SHA256 of that file, which has to stand in DIR before `open`.
-Options: --download, for extract: get what is missing in FOLDER from the archives whose URI stands in DIR/sources, and else by
-`apt-get download`; --pins-left-out, for extract, lock and --recommends: that a plan without the pins that were left out will do;
---priority WORD, for request: also the packages of this Priority, as required; may be repeated; --recommends, for request: what new
-packages recommend too, of each clause the first alternative with which there is a plan that removes nothing more and still installs
-what was found, and so on with what came in. What came and what was left out, and why, is said; --target REL, for lock and
---recommends, as for debplan. For finish: --hook COMMAND, a command of sh with the path of ROOT as $1, run with this machine's
-programs; may be repeated; --tar FILE, all of ROOT as a tar file, with names in order and no time later than SOURCE_DATE_EPOCH, if
-that is given.
+With --recommends each clause of Recommends is met by the first alternative with which there is a plan that removes nothing more and
+still installs what was found, and so on with what came in. What came and what was left out, and why, is said.
+
 Environment: ARCH (default: that of dpkg); DEBPLAN, the program; APT_CONFIG, for the download; SOURCE_DATE_EPOCH.
 Exit status: 0, 1 where something is missing, refused or not the same, or a hook fails, 6 where pins are left out and
 --pins-left-out isn't given, 64 for wrong words, 69 where a program is missing."""
@@ -431,40 +426,56 @@ def compared(inputs):
     return 0 if judged.returncode == 0 and same else 1
 
 
-def options_in(words):
+# What the commands are for.
+ABOUT = {
+    "request": "write a request of the essential packages, and others",
+    "extract": "extract the packages of a plan into a new root",
+    "finish": "write the sources of apt, run hooks, make a tar file",
+    "lock": "write the lock file",
+    "open": "write a folder of inputs from a lock file, and compare",
+}
+FOLDER = "a folder of inputs, as collect-inputs writes it"
+
+
+def parser():
+    """The words of the command."""
     options = tool.Words(__doc__)
-    parts = options.add_subparsers(dest="command", parser_class=PartWords, required=True)
-    request, root, done, locked, opened = (parts.add_parser(name) for name in ("request", "extract", "finish", "lock", "open"))
-    request.add_argument("--priority", action="append", default=[])
-    request.add_argument("--recommends", action="store_true")
-    request.add_argument("folder")
-    request.add_argument("names", nargs="*")
-    root.add_argument("--debs", required=True)
-    root.add_argument("--download", action="store_true")
-    done.add_argument("--hook", action="append", default=[])
-    done.add_argument("--tar")
+    parts = options.add_subparsers(dest="command", metavar="COMMAND", required=True, parser_class=PartWords)
+    request, root, done, locked, opened = (parts.add_parser(name, about=about, help=about) for name, about in ABOUT.items())
+    request.add_argument("--priority", action="append", default=[], metavar="WORD", help="also the packages of this Priority, as "
+                         "required; may be repeated")
+    request.add_argument("--recommends", action="store_true", help="also what new packages recommend")
+    request.add_argument("folder", metavar="DIR", help=FOLDER)
+    request.add_argument("names", nargs="*", metavar="NAME", help="more packages")
+    root.add_argument("--debs", required=True, metavar="FOLDER", help="the folder that has the .deb files")
+    root.add_argument("--download", action="store_true", help="get what is missing in FOLDER from the archives whose URI stands in "
+                      "DIR/sources, and else by apt-get download")
+    done.add_argument("--hook", action="append", default=[], metavar="COMMAND", help="a command of sh with the path of ROOT as $1, "
+                      "run with this machine's programs; may be repeated")
+    done.add_argument("--tar", metavar="FILE", help="write all of ROOT as a tar file, with names in order and no time later than "
+                      "SOURCE_DATE_EPOCH, if that is given")
     for part in (root, done):
-        part.add_argument("folder")
-        part.add_argument("root")
+        part.add_argument("folder", metavar="DIR", help=FOLDER)
+        part.add_argument("root", metavar="ROOT", help="the folder of the root")
     for part in (request, root, locked):
-        part.add_argument("--pins-left-out", action="store_true")
+        part.add_argument("--pins-left-out", action="store_true", help="accept a plan without the pins that were left out")
     for part in (request, locked):
-        part.add_argument("--target")
+        part.add_argument("--target", metavar="RELEASE", help="a release to prefer, as for debplan")
     for part, order in ((locked, ("folder", "file")), (opened, ("file", "folder"))):
         for name in order:
-            part.add_argument(name)
-    return options.read(words)
+            part.add_argument(name, metavar="FILE" if name == "file" else "DIR", help="the lock file" if name == "file" else FOLDER)
+    return options
 
 
 class PartWords(tool.Words):
     """The words of one command."""
 
-    def __init__(self, **_):
-        super().__init__(__doc__)
+    def __init__(self, prog, about):
+        super().__init__(about, prog)
 
 
 def main(words):
-    options = options_in(words)
+    options = parser().read(words)
     commands = {"request": write_request, "extract": extract_all, "finish": finish, "lock": lock, "open": unlock}
     return commands[options.command](options)
 

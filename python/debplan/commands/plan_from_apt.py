@@ -1,5 +1,4 @@
-"""plan-from-apt [OPTION..] DIR COMMAND..: writes what `apt-get -s COMMAND..` would do as DIR/plan, and what COMMAND asks for as
-DIR/request, and has debplan judge that plan by the inputs in DIR, which collect-inputs writes.
+"""Writes what `apt-get -s COMMAND..` would do as DIR/plan, and what COMMAND asks for as DIR/request, and has debplan judge that plan by the inputs in DIR, which collect-inputs writes.
 
   collect-inputs DIR
   plan-from-apt DIR install hello
@@ -27,8 +26,7 @@ isn't legal its line in DIR/plan. Where apt refuses the command there is no plan
   this package are told.
 - The request has what `install`, `remove` and `purge` name. Other commands, as `upgrade`, name nothing: of their plans the
   steps, the relations at the end and the holds are judged.
-Options: --root ROOT, apt's plan for another system in the folder ROOT; --simulation FILE, as said above; --limit SECONDS, how long
-apt-get may take (default 300); --pins-left-out, that a verdict without the pins that were left out will do.
+
 Environment: ARCH (default: that of dpkg); DEBPLAN, the program; APT_CONFIG, as for collect-inputs.
 Exit status: that of `debplan check-plan`, 1 where apt-get refuses the command, 6 as said above, 64 for wrong words, 69 where a
 program is missing or the run without proof is stopped."""
@@ -158,15 +156,21 @@ def tell_forced(inputs, lines, offered, simulation):
     verdict_on(inputs, "plan.forced", forced)
 
 
-def options_in(words):
+def parser():
+    """The words of the command."""
     options = tool.Words(__doc__)
-    options.add_argument("--root")
-    options.add_argument("--simulation")
-    options.add_argument("--limit", type=int, default=300)
-    options.add_argument("--pins-left-out", action="store_true")
-    options.add_argument("folder")
-    options.add_argument("command", nargs=argparse.REMAINDER)
-    options = options.read(words)
+    options.add_argument("--root", metavar="ROOT", help="apt's plan for another system in the folder ROOT")
+    options.add_argument("--simulation", metavar="FILE", help="the plan that `apt-get -s COMMAND..` printed into FILE, or on "
+                         "standard input (-)")
+    options.add_argument("--limit", type=int, default=300, metavar="SECONDS", help="how long apt-get may take (default: 300)")
+    options.add_argument("--pins-left-out", action="store_true", help="accept a verdict without the pins that were left out")
+    options.add_argument("folder", metavar="DIR", help="a folder of inputs, as collect-inputs writes it")
+    options.add_argument("command", nargs=argparse.REMAINDER, metavar="COMMAND", help="the words of apt-get, as install hello")
+    return options
+
+
+def options_in(words):
+    options = parser().read(words)
     if not options.command:
         raise Failure("no command of apt-get is named", 64)
     return options

@@ -1,4 +1,4 @@
-"""run-plan --root ROOT --debs FOLDER [OPTION..] DIR: carries the plan DIR/plan out in the root ROOT by dpkg, step by step.
+"""Carries the plan DIR/plan out in the root ROOT by dpkg, step by step.
 
   collect-inputs --root ROOT DIR                 the inputs, and then in DIR a request and a plan for it
   run-plan --root ROOT --debs FOLDER DIR
@@ -23,9 +23,7 @@ without either is refused.
   relations of each package. Of a removed package without configuration files dpkg keeps no record.
 
 Where a pin of the machine had to be left out of DIR, no plan is begun without --pins-left-out.
-Options: --download, get what is missing in FOLDER from the archives whose URI stands in DIR/sources, and else by
-`apt-get download`; --strict, stop where a removal needs --force-depends; --dpkg WORD, one more word for each call of dpkg, as
---dpkg=--force-confold; --target REL, as for debplan; --pins-left-out, that a plan without the pins that were left out will do.
+
 Environment: ARCH (default: that of dpkg); DEBPLAN, the program; APT_CONFIG, for the download.
 Exit status: 0 where all steps are done and the end is as planned, 1 where it isn't, or a step or the plan is refused, 6 where
 pins are left out and --pins-left-out isn't given, 64 for wrong words, 69 where a program is missing."""
@@ -320,16 +318,20 @@ def compare(run):
     return 0
 
 
-def options_in(words):
+def parser():
+    """The words of the command."""
     options = tool.Words(__doc__)
-    for name in ("--root", "--debs", "--target"):
-        options.add_argument(name, required=name != "--target")
-    options.add_argument("--dpkg", action="append", default=[])
-    options.add_argument("--download", action="store_true")
-    options.add_argument("--strict", action="store_true")
-    options.add_argument("--pins-left-out", action="store_true")
-    options.add_argument("folder")
-    return options.read(words)
+    options.add_argument("--root", required=True, metavar="ROOT", help="the folder of a whole system; / is this machine")
+    options.add_argument("--debs", required=True, metavar="FOLDER", help="the folder that has the .deb files")
+    options.add_argument("--target", metavar="RELEASE", help="the release that the plan goes by, as for debplan")
+    options.add_argument("--dpkg", action="append", default=[], metavar="WORD", help="one more word for each call of dpkg, as "
+                         "--dpkg=--force-confold")
+    options.add_argument("--download", action="store_true", help="get what is missing in FOLDER from the archives whose URI "
+                         "stands in DIR/sources, and else by apt-get download")
+    options.add_argument("--strict", action="store_true", help="stop where a removal needs --force-depends")
+    options.add_argument("--pins-left-out", action="store_true", help="accept a plan without the pins that were left out")
+    options.add_argument("folder", metavar="DIR", help="a folder of inputs with a request and a plan")
+    return options
 
 
 def debs_of(options, inputs):
@@ -375,7 +377,7 @@ def steps_done(run, again):
 
 
 def main(words):
-    options = options_in(words)
+    options = parser().read(words)
     inputs = Inputs(options.folder, target=options.target, needed=("sources", "request", "plan"))
     if inputs.lacks_pins(options.pins_left_out):
         return WITHOUT_PINS
