@@ -16,11 +16,12 @@ import sys
 import tempfile
 
 HERE = pathlib.Path(__file__).resolve().parent
-sys.dont_write_bytecode = True
-sys.path.insert(0, str(HERE.parent / "tools"))
-import common
+sys.path.insert(0, str(HERE.parent / "python"))
 import debplan
-import recommending
+from debplan import tool
+from debplan.machine import recommending
+from debplan.machine.database import Database
+from debplan.machine.inputs import Inputs
 
 INST = re.compile(r"^Inst (\S+?)(?::\S+)? (?:\[\S+\] )?\((\S+) ", re.MULTILINE)
 REMV = re.compile(r"^(?:Remv|Purg) (\S+?)(?::\S+)? ", re.MULTILINE)
@@ -35,8 +36,8 @@ def seconds():
 
 class Bench:
     def __init__(self, folder, room):
-        self.inputs, self.room = common.Inputs(folder), room
-        self.before = common.Database(self.inputs.path("status"))
+        self.inputs, self.room = Inputs(folder), room
+        self.before = Database(self.inputs.path("status"))
         self.faults, self.same, self.rows = 0, 0, 0
 
     def of_apt(self, name):
@@ -44,7 +45,7 @@ class Bench:
         settings = {"Dir::State::status": self.inputs.path("status"), "Dir::Cache::pkgcache": f"{self.room}/pkgcache",
                     "Dir::Cache::srcpkgcache": f"{self.room}/srcpkgcache", "APT::Install-Recommends": "true"}
         words = [word for key, value in settings.items() for word in ("-o", f"{key}={value}")]
-        run = common.run_of(["apt-get", "-s", *words, "install", name])
+        run = tool.run_of(["apt-get", "-s", *words, "install", name])
         return None if run.returncode else {**dict(INST.findall(run.stdout)), **dict.fromkeys(REMV.findall(run.stdout))}
 
     def of_debplan(self, name):

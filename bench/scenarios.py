@@ -1,9 +1,9 @@
-"""The scenarios of files, as tools/scenario_text.py reads them: scenarios/README.md has their format."""
+"""The scenarios of files, as dev/scenario_text.py reads them: scenarios/README.md has their format."""
 
 import pathlib
 import sys
 
-sys.path.insert(0, str(pathlib.Path(__file__).resolve().parent.parent / "tools"))
+sys.path.insert(0, str(pathlib.Path(__file__).resolve().parent.parent / "dev"))
 from scenario_text import scenarios_of  # noqa: E402
 
 

@@ -19,11 +19,13 @@ import subprocess
 import sys
 import tempfile
 
-sys.path.insert(0, str(pathlib.Path(__file__).resolve().parent.parent / "tools"))
-import changes  # noqa: E402
-import common  # noqa: E402
+sys.path.insert(0, str(pathlib.Path(__file__).resolve().parent.parent / "dev"))
+sys.path.insert(1, str(pathlib.Path(__file__).resolve().parent.parent / "python"))
+from debplan import control
+from debplan.machine import changes, reasons
+from debplan.machine.database import Database
+from debplan.machine.inputs import Inputs
 import documents  # noqa: E402
-import reasons  # noqa: E402
 
 ARCHIVE = {"filename": "Filename", "size": "Size", "sha256": "SHA256"}
 CLOSING = "This is about the admitted versions: "
@@ -47,13 +49,13 @@ class World:
     """The folder, as the program reads it and as Python does."""
 
     def __init__(self, folder, program):
-        self.inputs, self.program = common.Inputs(folder), program
+        self.inputs, self.program = Inputs(folder), program
         self.offered = reasons.Offered(self.inputs)
         self.stanzas = collections.defaultdict(dict)
-        for keys in common.stanzas_in(self.inputs.path("sources")):
-            for fields in common.stanzas_in(self.inputs.folder / keys["File"]):
+        for keys in control.stanzas_in(self.inputs.path("sources")):
+            for fields in control.stanzas_in(self.inputs.folder / keys["File"]):
                 if fields.get("Architecture") in ("all", self.inputs.arch):
-                    self.stanzas[fields["Package"]].setdefault(common.version_key(fields["Version"]), fields)
+                    self.stanzas[fields["Package"]].setdefault(control.version_key(fields["Version"]), fields)
 
     def words(self, command, status=None):
         words = [self.program, command, "--arch", self.inputs.arch, "--status", str(status or self.inputs.path("status")),
@@ -86,7 +88,7 @@ def archive_faults(world, steps):
     """What of the archives of the steps isn't as the first stanza of that name and version has it."""
     for step in steps:
         if step["action"] == "unpack":
-            fields = world.stanzas[step["name"]].get(common.version_key(step["version"]), {})
+            fields = world.stanzas[step["name"]].get(control.version_key(step["version"]), {})
             wanted = {key: fields.get(field) for key, field in ARCHIVE.items()}
             wanted["size"] = wanted["size"] and int(wanted["size"])
             if {key: step[key] for key in ARCHIVE} != wanted:
@@ -95,15 +97,15 @@ def archive_faults(world, steps):
 
 def changes_by(world, steps):
     """What the steps change, as the lists of the sentences: of each heading its items, without the reason of a removal."""
-    before, after = (common.Database(world.inputs.path("status")) for _ in range(2))
+    before, after = (Database(world.inputs.path("status")) for _ in range(2))
     offered = {(name, fields["Version"]): fields for name, versions in world.stanzas.items() for fields in versions.values()}
     lists = collections.defaultdict(list)
     for step in steps:
         after.take(documents.step_line(step).split(" "), offered)
     for name in sorted(before.records.keys() | after.records.keys()):
         old, new = before.version(name), after.version(name)
-        if old and new and common.version_key(old) != common.version_key(new):
-            heading = "Upgraded" if common.version_key(old) < common.version_key(new) else "Downgraded"
+        if old and new and control.version_key(old) != control.version_key(new):
+            heading = "Upgraded" if control.version_key(old) < control.version_key(new) else "Downgraded"
             lists[heading].append(f"{name} {old} -> {new}")
         elif new and not old:
             lists["New"].append(f"{name} {new}")
@@ -132,8 +134,8 @@ def list_faults(text, wanted):
     """What is wrong with a list of pairs: `a 1, b 2 or c 3`, of which those behind the fifth are counted alone."""
     text, _, rest = re.sub(r" or (\d+) others?$", r"|\1", text).partition("|")
     told = [tuple(item.split(" ")) for item in re.split(r", | or ", text)]
-    known = {(name, common.version_key(version)) for name, version in wanted}
-    if any((name, common.version_key(version)) not in known for name, version in told) or len(told) + int(rest or 0) != len(known):
+    known = {(name, control.version_key(version)) for name, version in wanted}
+    if any((name, control.version_key(version)) not in known for name, version in told) or len(told) + int(rest or 0) != len(known):
         yield f"{text} is told, and {sorted(wanted)} is so"
 
 
@@ -150,8 +152,8 @@ def cause_faults(world, universe, cause):
     elif provided := re.fullmatch(r"only (.*) provides (\S+), without the version that is asked for", cause):
         yield from list_faults(provided[1], {pair[:2] for pair in universe.providers()[provided[2]]})
     elif ruled := re.match(rf"(?:\S+ is provided by )?{PAIR}(?:, which)? is not admitted: ", cause):
-        key = common.version_key(ruled[2])
-        if key not in world.stanzas[ruled[1]] or key in {common.version_key(pair.version) for pair in universe.by_name[ruled[1]]}:
+        key = control.version_key(ruled[2])
+        if key not in world.stanzas[ruled[1]] or key in {control.version_key(pair.version) for pair in universe.by_name[ruled[1]]}:
             yield f"{cause}: it isn't so"
     elif not re.match(r"(\S+) (?:is held|is no package|has no candidate|is asked for of)|no index has", cause):
         yield f"{cause}: no such cause is known"
@@ -175,7 +177,7 @@ def need_faults(world, universe, need):
     if fields is None:
         yield f"{name} {version} isn't admitted"
         return
-    spelled = {common.written(atom._replace(qualifier=None) for atom in atoms): atoms for atoms in common.clauses_in(fields, FIELDS[verb])}
+    spelled = {control.written(atom._replace(qualifier=None) for atom in atoms): atoms for atoms in control.clauses_in(fields, FIELDS[verb])}
     if clause not in spelled:
         yield f"{name} {version} has no such clause: {clause}"
         return
@@ -188,29 +190,29 @@ def against_faults(universe, against):
     pairs = [next((pair for pair in universe.by_name[it] if pair.version == at), None) for it, at in ((name, version), (other, its))]
     if None in pairs:
         yield f"{name} {version} or {other} {its} isn't admitted"
-    elif not any(common.matches(pairs[1].fields, atom) for atoms in common.clauses_in(pairs[0].fields, FIELDS[verb]) for atom in atoms):
+    elif not any(control.matches(pairs[1].fields, atom) for atoms in control.clauses_in(pairs[0].fields, FIELDS[verb]) for atom in atoms):
         yield f"{name} {version} has no such {FIELDS[verb]}"
 
 
 def instead_faults(world, universe, instead):
     name, version, wanted = instead.groups()
-    key, atom = common.version_key(version), common.clauses_of(wanted)[0][0]
-    if key not in world.stanzas[name] or key in {common.version_key(pair.version) for pair in universe.by_name[name]}:
+    key, atom = control.version_key(version), control.clauses_of(wanted)[0][0]
+    if key not in world.stanzas[name] or key in {control.version_key(pair.version) for pair in universe.by_name[name]}:
         yield f"{name} {version} is admitted, or in no index"
-    elif atom.name != name or not common.meets(version, atom):
+    elif atom.name != name or not control.meets(version, atom):
         yield f"{name} {version} wouldn't do for {wanted}"
 
 
 def goal_faults(world, universe, goal):
-    atom = common.clauses_of(goal[1])[0][0]
-    wanted = {pair[:2] for pair in universe.by_name[atom.name] if common.meets(pair.version, atom)}
+    atom = control.clauses_of(goal[1])[0][0]
+    wanted = {pair[:2] for pair in universe.by_name[atom.name] if control.meets(pair.version, atom)}
     yield from rest_faults(world, universe, goal, wanted)
 
 
 def idle_faults(world, absent, present):
     """Whether a name that no package has is one of an index or of what is installed, or a name that some package has is none."""
     name = absent or present
-    is_there = name in world.stanzas or common.Database(world.inputs.path("status")).version(name)
+    is_there = name in world.stanzas or Database(world.inputs.path("status")).version(name)
     return [f"{name} is{'' if is_there else ' no'} package"] if bool(is_there) == bool(absent) else []
 
 
@@ -277,7 +279,7 @@ def requests_of(world, chance):
     names = sorted(world.stanzas)
     installed = sorted(world.offered.standing)
     rivals = [(fields["Package"], atom.name) for versions in world.stanzas.values() for fields in versions.values()
-              for atoms in common.clauses_in(fields, "Conflicts") for atom in atoms if atom.name in world.stanzas and not atom.operator]
+              for atoms in control.clauses_in(fields, "Conflicts") for atom in atoms if atom.name in world.stanzas and not atom.operator]
     while True:
         yield [f"install {chance.choice(names)}"]
         yield [f"{chance.choice(('remove', 'purge'))} {chance.choice(installed)}"]

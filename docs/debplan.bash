@@ -1,4 +1,4 @@
-# completion for debplan, written by tools/manual from the help of the program
+# completion for debplan, written by dev/manual from the help of the program
 _debplan()
 {
     local word=${COMP_WORDS[COMP_CWORD]} before=${COMP_WORDS[COMP_CWORD-1]} command=${COMP_WORDS[1]}

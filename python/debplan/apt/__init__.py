@@ -1,0 +1,1 @@
+"""apt's sources, lists, pins, simulations, and the scenarios that it sends."""

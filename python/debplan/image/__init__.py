@@ -1,0 +1,1 @@
+"""A root from nothing, the files of its packages, and its lock file."""
