@@ -1,4 +1,5 @@
 pub mod FaultLemmas
+pub mod KeptLemmas
 pub mod LeftLemmas
 pub mod PlanLemmas
 pub mod ProgressLemmas

@@ -24,3 +24,13 @@ IsBeginFault arch start file (NotCreated e) = IsUnmade file × IsCreateFault arc
 -- a call of the disk failed
 abbrev pub IsDiskError : BeginError → Type 0
 IsDiskError e = (e ≡ NotCreated create_error.Disk) ⊎ (e ≡ NotRead open_error.Disk)
+
+-- a call of the disk failed while the file was made a journal
+abbrev pub IsMakingFailed : BeginError → Type 0
+IsMakingFailed e = e ≡ NotCreated create_error.Disk
+
+-- the file isn't made a journal for this cause: it is as it was, unless its making failed, and then no journal was made of it before
+pub record IsNotBegunOn (arch start : List ℕ) (old : DiskFacts) (e : BeginError) (new : DiskFacts) : Type 0 where
+  pub cause : IsBeginFault arch start old.seen e
+  pub refused : (¬ IsMakingFailed e) → Stays old new
+  pub kept : (¬ IsUnmade old.seen) → Stays old new

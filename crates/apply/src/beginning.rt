@@ -1,7 +1,8 @@
 //! A journal for a plan, which is made where there is none.
 ghost use Rattle.std.specs.Prelude.{◌≡◌, ◌↔◌, ◌+◌, ◌-◌, ◌^◌, IfErr, OnOk, min};
 ghost use Rattle.disk.specs.Calls.{Stays};
-ghost use Rattle.apply.specs.Begun.{IsBeginFault, IsBegunOn, IsDiskError};
+ghost use Rattle.journal.specs.Creating.{IsUnmade};
+ghost use Rattle.apply.specs.Begun.{IsBeginFault, IsBegunOn, IsDiskError, IsMakingFailed};
 
 use crate::error::BeginError;
 use disk::Disk;
@@ -9,8 +10,8 @@ use journal::{create, is_unmade, read_all};
 use std::alloc::Global;
 
 /// Makes the file of the disk a journal for the architecture, with this start and no step, where no journal was made of it before: it
-/// is empty, or its making was stopped. Any other file is read and left as it is. Where the making is stopped, another run begins anew:
-/// nothing was acknowledged. Linear in the file and in the start; three syncs.
+/// is empty, or its making was stopped. Any other file is read and left as it is, whatever is answered. Where the making is stopped,
+/// another run begins anew: nothing was acknowledged. Linear in the file and in the start; three syncs.
 pub fn begin<D: Disk>(
     alloc: Global,
     disk: &mut D,
@@ -22,8 +23,11 @@ pub fn begin<D: Disk>(
         (D.honest disk.old → IsBegunOn arch.now start.now (D.facts disk.old) (D.facts disk.new)) }
     ensures fault { IfErr result
         (λ e. D.honest disk.old → IsBeginFault arch.now start.now (D.facts disk.old).seen e) }
+    ensures kept { D.honest disk.old → ¬ IsUnmade (D.facts disk.old).seen
+        → Stays (D.facts disk.old) (D.facts disk.new) }
     ensures refused { IfErr result
-        (λ e. ¬ IsDiskError e → D.honest disk.old → Stays (D.facts disk.old) (D.facts disk.new)) }
+        (λ e. ¬ IsMakingFailed e → D.honest disk.old
+        → Stays (D.facts disk.old) (D.facts disk.new)) }
     ensures failed { IfErr result
         (λ e. IsDiskError e → D.faults disk.new ≡ min (D.faults disk.old + 1) (2 ^ 64 - 1)) }
     ensures other { IfErr result (λ e. ¬ IsDiskError e → D.faults disk.new ≡ D.faults disk.old) }

@@ -9,9 +9,11 @@ mod catching;
 mod comparing;
 mod error;
 mod finishing;
+mod laws;
 mod running;
 
 pub use beginning::begin;
 pub use catching::catch_up;
 pub use error::{BeginError, CatchUpError, RunError};
+pub use laws::a_run_keeps_each_history;
 pub use running::go_on;

@@ -1,10 +1,11 @@
 //! A plan that is ready to be carried out, by a journal on a disk.
 ghost use Rattle.std.specs.Prelude.{◌≡◌, ◌↔◌, ◌+◌, ◌-◌, ◌^◌, ℕ, List, IfErr, IfOk, OnOk, map, min};
-ghost use Rattle.apply.specs.Begun.{IsBeginFault, IsBegunOn, IsDiskError};
+ghost use Rattle.apply.specs.Begun.{IsBeginFault, IsBegunOn, IsDiskError, IsMakingFailed};
 ghost use Rattle.apply.specs.Run.{IsRunOn};
 ghost use Rattle.apply.specs.RunFault.{IsDiskFault};
 ghost use Rattle.apply_engine.specs.GoodPlan.{IsCarriedOut};
 ghost use Rattle.disk.specs.Calls.{Stays};
+ghost use Rattle.journal.specs.Creating.{IsUnmade};
 
 use apply::{BeginError, RunError, begin, go_on};
 use disk::Disk;
@@ -58,7 +59,8 @@ impl GoodPlan {
         self.indices.as_slice()
     }
 
-    /// Makes the file of the disk a journal for the plan, where no journal was made of it before, as `apply::begin` does.
+    /// Makes the file of the disk a journal for the plan, where no journal was made of it before, as `apply::begin` does: any other file
+    /// stays as it is, whatever is answered.
     pub fn begin<D: Disk>(&self, alloc: Global, disk: &mut D) -> Result<(), BeginError>
         ensures honest { D.honest disk.new ↔ D.honest disk.old }
         ensures begun { OnOk result
@@ -67,8 +69,10 @@ impl GoodPlan {
         ensures fault { IfErr result
             (λ e. D.honest disk.old
             → IsBeginFault self.now.arch self.now.start (D.facts disk.old).seen e) }
+        ensures kept { D.honest disk.old → ¬ IsUnmade (D.facts disk.old).seen
+            → Stays (D.facts disk.old) (D.facts disk.new) }
         ensures refused { IfErr result
-            (λ e. ¬ IsDiskError e → D.honest disk.old
+            (λ e. ¬ IsMakingFailed e → D.honest disk.old
             → Stays (D.facts disk.old) (D.facts disk.new)) }
         ensures failed { IfErr result
             (λ e. IsDiskError e → D.faults disk.new ≡ min (D.faults disk.old + 1) (2 ^ 64 - 1)) }
