@@ -1,4 +1,5 @@
-"""How the program is asked: by a process of `debplan batch` that answers many questions, or by a call for each."""
+"""How the program is asked: by a process of `debplan batch` that answers many questions, or by a
+call for each."""
 from __future__ import annotations
 
 import contextlib
@@ -22,7 +23,8 @@ from debplan.answers import Document, Error, Failed, Path, Refused, read_by
 _REFUSED = re.compile(r"(.+): (E\d+) ([A-Z]\w*)(?: (.*))?")
 _REFUSAL = re.compile(f"debplan: {_REFUSED.pattern}")
 _TOP = pathlib.Path(__file__).resolve().parent.parent.parent
-# How many bytes a question to `debplan batch` may have (docs/FORMATS.md, section 20), of which some are left for its newline.
+# How many bytes a question to `debplan batch` may have (docs/FORMATS.md, section 20), of which some
+# are left for its newline.
 QUESTION_BYTES = 67_108_864 - 16
 # How long a process that broke off has to end by itself, in seconds.
 _SECONDS_TO_END = 5
@@ -30,8 +32,9 @@ _SECONDS_TO_END = 5
 
 @dataclass(frozen=True)
 class Question:
-    """A question to the program: the command that answers it, the text of the request and of what is judged, if there are any, names,
-    the limit of the search, and the names of options without a value."""
+    """A question to the program: the command that answers it, the text of the request and of what
+    is judged, if there are any, names, the limit of the search, and the names of options without a
+    value."""
 
     command: str
     request: Optional[str] = None
@@ -54,9 +57,15 @@ class Calls:
             words += [f"--limit={question.limit}"] if question.limit is not None else []
             words += [*(f"--{flag}" for flag in question.flags)]
             words += ["--request=-"] if question.request is not None else []
-            judged = [stack.enter_context(_file_with(question.judged)).name] if question.judged is not None else []
+            judged = (
+                [stack.enter_context(_file_with(question.judged)).name]
+                if question.judged is not None
+                else []
+            )
             words += ["--", *judged, *question.names] if judged or question.names else []
-            given, said = stack.enter_context(_file_with(question.request or "")), stack.enter_context(tempfile.TemporaryFile())
+            given, said = stack.enter_context(
+                _file_with(question.request or "")
+            ), stack.enter_context(tempfile.TemporaryFile())
             run = started(words, self._folder, given, said)
             stack.callback(end_of_process, run)
             is_whole = False
@@ -101,8 +110,8 @@ class Process:
         return self._run.poll() is not None
 
     def reply(self, line: bytes) -> bytes:
-        """What it writes in answer to a line: a line, or the beginning of one where it breaks off. It is read while the question is
-        written, so that neither waits for the other."""
+        """What it writes in answer to a line: a line, or the beginning of one where it breaks off.
+        It is read while the question is written, so that neither waits for the other."""
         given, told, left, found = self._run.stdin, self._run.stdout, line, bytearray()
         assert given and told
         self._before = os.fstat(self._said.fileno()).st_size
@@ -123,18 +132,29 @@ class Process:
         return bytes(found)
 
     def error(self) -> Error:
-        """Why it broke off: a refusal, or that it failed, with what it said since the question, or else at last."""
+        """Why it broke off: a refusal, or that it failed, with what it said since the question, or
+        else at last."""
         status = _status_of(self._run, _SECONDS_TO_END)
         said = _text_from(self._said, self._before)
-        return error_of(self._program, status, said if said.strip() else "".join(_text_from(self._said, 0).splitlines()[-1:]))
+        return error_of(
+            self._program,
+            status,
+            said if said.strip() else "".join(_text_from(self._said, 0).splitlines()[-1:]),
+        )
 
 
 class Batch:
-    """Questions that are asked of one process, which is started for the first of them, and again where it has ended. Threads wait for
-    each other."""
+    """Questions that are asked of one process, which is started for the first of them, and again
+    where it has ended. Threads wait for each other."""
 
-    def __init__(self, program: Optional[Path], folder: Optional[Path], inputs: Iterable[str]) -> None:
-        self._how = path_of_program(program), None if folder is None else os.path.abspath(folder), tuple(inputs)
+    def __init__(
+        self, program: Optional[Path], folder: Optional[Path], inputs: Iterable[str]
+    ) -> None:
+        self._how = (
+            path_of_program(program),
+            None if folder is None else os.path.abspath(folder),
+            tuple(inputs),
+        )
         self.calls, self._lock, self._asked = Calls(*self._how), threading.Lock(), 0
         self._process: Optional[Process] = None
 
@@ -153,14 +173,15 @@ class Batch:
         return reply
 
     def packages(self, question: Question) -> Generator[Document, None, None]:
-        """The documents that answer a question about packages, the last of which has the counts. Raises Refused and Failed."""
+        """The documents that answer a question about packages, the last of which has the counts.
+        Raises Refused and Failed."""
         reply = self.document(question)
         yield from read_by(_packages_in, reply)
-        yield {**reply, "text": reply["text"][reply["text"][:-1].rfind("\n") + 1:]}
+        yield {**reply, "text": reply["text"][reply["text"][:-1].rfind("\n") + 1 :]}
 
     def _reply_to(self, line: bytes) -> Document:
-        """The reply to a question, which gets a number. Where there is none the process is ended, also where this is interrupted: what
-        it would still say belongs to no other question."""
+        """The reply to a question, which gets a number. Where there is none the process is ended,
+        also where this is interrupted: what it would still say belongs to no other question."""
         process = self._process
         if process is None or process.has_ended():
             self.close()
@@ -178,7 +199,9 @@ class Batch:
 
     def _refusal_in(self, reply: Document) -> Error:
         """What a reply without an answer raises."""
-        refusal = _REFUSED.fullmatch(reply["refused"]) if isinstance(reply["refused"], str) else None
+        refusal = (
+            _REFUSED.fullmatch(reply["refused"]) if isinstance(reply["refused"], str) else None
+        )
         if reply["id"] is None or not refusal:
             return Failed(f"{self._how[0]} refuses the question: {reply['refused']}")
         file, code, word, place = refusal.groups()
@@ -188,7 +211,13 @@ class Batch:
         """An error, of which the sentences are asked for when they are wanted."""
         if not isinstance(error, Refused):
             return error
-        return Refused(error.file, error.code, error.word, error.place, functools.partial(self.calls.sentences, question, str(error)))
+        return Refused(
+            error.file,
+            error.code,
+            error.word,
+            error.place,
+            functools.partial(self.calls.sentences, question, str(error)),
+        )
 
     def close(self) -> None:
         """Ends the process."""
@@ -203,8 +232,8 @@ def _packages_in(document: Document) -> List[Document]:
 
 
 def _line_with(question: Question) -> Optional[bytes]:
-    """A question as a line of `debplan batch` has it, but for its number; None where no line can have it, for its length or since a text
-    isn't UTF-8."""
+    """A question as a line of `debplan batch` has it, but for its number; None where no line can
+    have it, for its length or since a text isn't UTF-8."""
     members: Document = {"ask": question.command}
     if question.request is not None:
         members["goals"] = [question.request[:-1]] if question.request else []
@@ -223,9 +252,10 @@ def _line_with(question: Question) -> Optional[bytes]:
 
 
 def _left_of(line: bytes, given: IO[bytes]) -> bytes:
-    """What is left of a line where as much is written of it as there is room for; nothing where nobody reads it any more."""
+    """What is left of a line where as much is written of it as there is room for; nothing where
+    nobody reads it any more."""
     try:
-        return line[os.write(given.fileno(), line[:select.PIPE_BUF]):]
+        return line[os.write(given.fileno(), line[: select.PIPE_BUF]) :]
     except BrokenPipeError:
         return b""
 
@@ -239,18 +269,27 @@ def _file_with(text: str) -> Iterator[IO[bytes]]:
         yield file
 
 
-def started(words: List[str], folder: Optional[str], given: Union[int, IO[bytes]], said: IO[bytes]) -> "subprocess.Popen[bytes]":
-    """A process of the program, whose standard output is read, and whose standard error is written into a file."""
+def started(
+    words: List[str], folder: Optional[str], given: Union[int, IO[bytes]], said: IO[bytes]
+) -> "subprocess.Popen[bytes]":
+    """A process of the program, whose standard output is read, and whose standard error is written
+    into a file."""
     try:
-        return subprocess.Popen(words, cwd=folder, stdin=given, stdout=subprocess.PIPE, stderr=said,
-                                bufsize=0 if given == subprocess.PIPE else -1)
+        return subprocess.Popen(
+            words,
+            cwd=folder,
+            stdin=given,
+            stdout=subprocess.PIPE,
+            stderr=said,
+            bufsize=0 if given == subprocess.PIPE else -1,
+        )
     except OSError as error:
         raise Failed(f"{error.filename or words[0]}: {error.strerror}") from None
 
 
 def _status_of(run: "subprocess.Popen[bytes]", seconds: Optional[float] = None) -> int:
-    """The exit status of a process, to which no more is written and of which no more is read. With a number of seconds it is ended behind
-    these."""
+    """The exit status of a process, to which no more is written and of which no more is read. With
+    a number of seconds it is ended behind these."""
     for pipe in (run.stdin, run.stdout):
         if pipe:
             pipe.close()
@@ -270,7 +309,9 @@ def end_of_process(run: "subprocess.Popen[bytes]") -> None:
 
 def _text_from(file: IO[bytes], start: int) -> str:
     """The text of a file from a byte on. The place at which a process writes it stays."""
-    return os.pread(file.fileno(), os.fstat(file.fileno()).st_size, start).decode("utf-8", "replace")
+    return os.pread(file.fileno(), os.fstat(file.fileno()).st_size, start).decode(
+        "utf-8", "replace"
+    )
 
 
 def _read(line: bytes) -> Optional[Document]:
@@ -283,13 +324,14 @@ def _read(line: bytes) -> Optional[Document]:
 
 
 def error_of(program: str, status: int, said: str) -> Error:
-    """What a call that ended without its answer raises: the refusal on its standard error, or that it failed."""
+    """What a call that ended without its answer raises: the refusal on its standard error, or that
+    it failed."""
     lines = said.splitlines()
     for number, line in enumerate(lines):
         refusal = _REFUSAL.fullmatch(line)
         if refusal:
             file, code, word, place = refusal.groups()
-            return Refused(file, code, word, place or "", lines[number + 1:])
+            return Refused(file, code, word, place or "", lines[number + 1 :])
     first = next((line for line in lines if line.strip()), "no answer")
     return Failed(f"{program} ended with the status {status}: {first}", status)
 
@@ -311,14 +353,20 @@ def path_of_program(named: Optional[Path]) -> str:
 
 
 def compare(version: str, relation: str, other: str, program: Optional[Path] = None) -> bool:
-    """Whether a version compares so to another one (deb-version(7)). `relation` is `lt`, `le`, `eq`, `ne`, `ge` or `gt`.
+    """Whether a version compares so to another one (deb-version(7)). `relation` is `lt`, `le`,
+    `eq`, `ne`, `ge` or `gt`.
 
         debplan.compare("1.0~rc1", "lt", "1.0")         # True
 
     Raises Refused where one is no version (`version 1: E6 BadVersion ..`), and Failed."""
     path = path_of_program(program)
     try:
-        run = subprocess.run([path, "compare", "--", version, relation, other], stdin=subprocess.DEVNULL, capture_output=True, check=False)
+        run = subprocess.run(
+            [path, "compare", "--", version, relation, other],
+            stdin=subprocess.DEVNULL,
+            capture_output=True,
+            check=False,
+        )
     except OSError as error:
         raise Failed(f"{path}: {error.strerror}") from None
     if (run.returncode, run.stdout) not in ((0, b"yes\n"), (1, b"no\n")):

@@ -13,6 +13,8 @@ from debplan.tool import Failure
 BASE = re.compile(r"(broken|undecided) base")
 PACKAGE = re.compile(r"(broken|undecided) ([A-Za-z0-9][A-Za-z0-9+.-]*) ((?:[0-9]+:)?[A-Za-z0-9.+~:-]+)")
 COUNTS = re.compile(r"checked ([0-9]{1,9}), broken ([0-9]{1,9})(?:, undecided ([1-9][0-9]{0,8}))?")
+# How many bytes the name and the version of a package have at most as its files are called.
+STEM_BYTES = 200
 # The end of the name of a file that says over which inputs the output beside it is.
 INPUTS = ".inputs"
 # The kinds of its lines but for those of files, which have a sum and a path.
@@ -32,8 +34,9 @@ def written(line):
 
 
 def file_name(line):
-    """The package of a line, as the files on it are called."""
-    return written(line).replace(" ", "_")
+    """The package of a line, as the files on it are called: a long one by its sum."""
+    name = written(line).replace(" ", "_")
+    return name if len(name) <= STEM_BYTES else f"sha256-{hashlib.sha256(name.encode('ascii')).hexdigest()}"
 
 
 class Survey:
