@@ -22,7 +22,7 @@ with_providers names name listed = fold with_name names (map (λ one. one.pkg.na
 
 -- that the name is provided by packages of these names
 abbrev pub provided_line : List ℕ → List (List ℕ) → List ℕ
-provided_line name names = printed_word name ++ (codes " is a virtual package: it is provided by " ++ (names_words names ++ codes ".\n"))
+provided_line name names = printed_word name ++ (codes " is provided by " ++ (names_words names ++ codes ".\n"))
 
 -- the same, where there are some
 abbrev pub provided_words : List ℕ → List (List ℕ) → List ℕ

@@ -96,7 +96,7 @@ fn push_line(
         ++ Spec.provided_line name.now (map (λ one. one.now) names.now)) }
 {
     push_word(text, name)?;
-    text.extend_from_slice(b" is a virtual package: it is provided by ")?;
+    text.extend_from_slice(b" is provided by ")?;
     push_names(alloc, text, names)?;
     text.extend_from_slice(b".\n")?;
     Ok(())

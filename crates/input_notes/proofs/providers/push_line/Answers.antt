@@ -8,7 +8,7 @@ pub returns : goal.returns
 returns c =
     let old = c.args.text.now.items in
     let word = printed_word c.args.name.now in
-    let verb = codes " is a virtual package: it is provided by " in
+    let verb = codes " is provided by " in
     let names = names_words (map (λ one. one.now) c.args.names.now) in
     let end = codes ".\n" in
     let second : c.extend_from_slice.new.self.items ≡ c.push_word.new.text.items ++ verb = cc c.in_ok-extend_from_slice.ensures.items in
