@@ -1,5 +1,5 @@
 -- What a call leaves of the files and the journals of a host.
-use Rattle.std.proofs.Common.{◌≡◌, ◌∷◌, ◌++◌, [], ◌∙◌, inl, inr, ap, append-nil, codes, refl, subst, sym, List, ℕ, Option, Some, Result, Ok, Err}
+use Rattle.std.proofs.Common.{◌≡◌, ◌∷◌, ◌++◌, [], ◌∙◌, inl, inr, ap, append-nil, codes, false, refl, subst, sym, List, ℕ, Option, Some, Result, Ok, Err}
 use Rattle.apply_engine.specs.GoodPlan.{IsCarriedOut, ReadyPlan}
 use Rattle.apply_engine.specs.declared.good_plan.CarriedOut.{CarriedOut}
 use Rattle.cli.specs.Applied.{IsOutcomeOfPut, IsOutcomeOfReady, IsOutcomeOfStop, IsRunThrough}
@@ -55,7 +55,7 @@ module _ {J : Type 0} (journal : List ℕ) (at : Files) (was : Kept J) where
         printed,
         put,
         back.2.puts
-            ∙ ap (λ (ps : List Put). ps ++ record { path = output; text = done.status.items; held = Some journal } ∷ []) lent.puts,
+            ∙ ap (λ (ps : List Put). ps ++ record { path = output; text = done.status.items; held = Some journal; named = false } ∷ []) lent.puts,
       );
     }
     of_status output done mine yours mid (Err e) files kept lent through put back outcome printed = record {
@@ -88,7 +88,7 @@ put_where path printed (Ok done) outcome is = inl is
 put_where path printed (Err e) outcome is = inr is
 
 module _ {J : Type 0} {A E : Type 0} (path text : List ℕ) (at : Files) (was : Kept J) where
-  pub put_left : (printed : Outcome) (r : Result A E) (files : Option Files) (kept : Option (Kept J)) → Puts path text at r files → NotesPut path text was r kept
+  pub put_left : (printed : Outcome) (r : Result A E) (files : Option Files) (kept : Option (Kept J)) → Puts path text at r files → NotesPut false path text was r kept
       → (outcome : Outcome) → IsPrintedOfPut r printed outcome → IsLeftOfKept (Some path) text printed at was outcome files kept
   put_left printed (Ok done) files kept put noted outcome is = inl (is, (put, noted))
   put_left printed (Err e) files kept put noted outcome is = inr (is, (put, noted))

@@ -1,4 +1,5 @@
 mod AgainLemmas
+mod JournalLemmas
 mod LeavingLemmas
 mod LeftLemmas
 mod PutLemmas

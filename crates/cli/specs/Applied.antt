@@ -1,12 +1,13 @@
 -- What is printed of a plan that is to be carried out, and what is made of the file of its journal.
-use Rattle.std.specs.Prelude.{◌≡◌, ◌≢◌, ◌⊎◌, ◌∷◌, [], List, ℕ, IfOk, Result, Ok, Err, ⊤}
-use Rattle.apply.specs.Begun.{IsBeginFault, IsBegunOn}
+use Rattle.std.specs.Prelude.{◌≡◌, ◌≢◌, ◌⊎◌, List, ℕ, IfOk, Result, Ok, Err}
+use Rattle.apply.specs.Begun.{IsBegunOn, IsNotBegunOn}
 use Rattle.apply.specs.Run.{IsRunOn}
 use Rattle.apply_engine.specs.GoodPlan.{IsCarriedOut, ReadyPlan}
 use Rattle.apply_engine.specs.Prepared.{IsSaidOfPrepared}
 use Rattle.apply_engine.specs.declared.good_plan.CarriedOut.{CarriedOut}
 use Rattle.apply_engine.specs.declared.question.Prepared.{Prepared}
 use Rattle.apply_engine.specs.declared.question.Prepared.TheVariants.{Judged, Ready}
+use Rattle.cli.specs.Places.{AreOthers}
 use Rattle.cli.specs.declared.applied.Stop.{Stop}
 use Rattle.cli.specs.declared.applied.Stop.TheVariants.{NotBegun, Stopped}
 use Rattle.disk.specs.Facts.{DiskFacts}
@@ -19,11 +20,6 @@ use Rattle.outcomes.specs.declared.exit.Exit.TheVariants as exit
 use Rattle.outcomes.specs.declared.outcome.Outcome.{Outcome}
 use Rattle.outcomes.specs.declared.outcome.Outcome.TheVariants as outcome
 
--- none of these paths is this one
-abbrev pub AreOthers : List ℕ → List (List ℕ) → Type 0
-AreOthers path [] = ⊤
-AreOthers path (other ∷ others) = (path ≢ other) × AreOthers path others
-
 -- the journal, the output and these files are different ones, but that these may be the same among themselves
 pub record AreApart (journal output : List ℕ) (others : List (List ℕ)) : Type 0 where
   pub written : journal ≢ output
@@ -34,12 +30,12 @@ pub record AreApart (journal output : List ℕ) (others : List (List ℕ)) : Typ
 
 -- a good plan was begun on the file of a journal and gone on with: with this answer, or until this stood against it
 abbrev pub IsRunThrough : {J : Type 0} → (J → Type 0) → (J → DiskFacts) → ReadyPlan → J → Result CarriedOut Stop → J → Type 0
-IsRunThrough honest facts plan old (Err (NotBegun e)) new = honest old → IsBeginFault plan.arch plan.start (facts old).seen e
-IsRunThrough {J} honest facts plan old (Err (Stopped e)) new = (begun : J) × (honest old
-    → IsBegunOn plan.arch plan.start (facts old) (facts begun)
+IsRunThrough honest facts plan old (Err (NotBegun e)) new = honest old → honest new × IsNotBegunOn plan.arch plan.start (facts old) e (facts new)
+IsRunThrough {J} honest facts plan old (Err (Stopped e)) new = (begun : J) × (honest old → honest new
+    × IsBegunOn plan.arch plan.start (facts old) (facts begun)
     × IsRunOn {T = CarriedOut} plan.arch plan.start plan.records (facts begun) (Err e) (facts new))
-IsRunThrough {J} honest facts plan old (Ok done) new = IsCarriedOut plan done × ((begun : J) × (honest old
-    → IsBegunOn plan.arch plan.start (facts old) (facts begun)
+IsRunThrough {J} honest facts plan old (Ok done) new = IsCarriedOut plan done × ((begun : J) × (honest old → honest new
+    × IsBegunOn plan.arch plan.start (facts old) (facts begun)
     × IsRunOn plan.arch plan.start plan.records (facts begun) (Ok done) (facts new)))
 
 -- the outcome is that of a plan against which this stood

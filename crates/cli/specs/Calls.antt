@@ -8,7 +8,7 @@ use Rattle.cli.specs.Batch.{IsOutcomeOfBatch}
 use Rattle.cli.specs.Files.{Files, judged_at, shelved_at}
 use Rattle.cli.specs.Members.{AreMembersOf, AreOfAnswered, AreOfCandidates, AreOfPlan, AreOfRefutation}
 use Rattle.cli.specs.Packages.{IsOutcomeOfPackages}
-use Rattle.cli.specs.Places.{comparison_of, texts_for}
+use Rattle.cli.specs.Places.{comparison_of, paths_given, texts_for}
 use Rattle.cli.specs.Possible.{IsOutcomeOfPossible}
 use Rattle.cli.specs.declared.arguments.Arguments.{Arguments}
 use Rattle.cli_engine.specs.Answer.{IsSaidOfNames}
@@ -75,9 +75,9 @@ IsOutcomeOfVersions version relation other outcome =
     (said : Result Bool Refusal) × IsSaidOfVersions version relation other said × IsOutcomeOfComparison said outcome
 
 -- the outcome is that of what is said of all of the request, or of as much of it as can be
-abbrev pub IsOutcomeOfExtent : Texts → ℕ → Extent → Format → Outcome → Type 0
-IsOutcomeOfExtent texts limit (ask.whole names_pairs) written outcome = IsOutcomeOfRequest texts limit names_pairs written outcome
-IsOutcomeOfExtent texts limit (ask.possible output) written outcome = IsOutcomeOfPossible texts limit output written outcome
+abbrev pub IsOutcomeOfExtent : Texts → List Text → ℕ → Extent → Format → Outcome → Type 0
+IsOutcomeOfExtent texts read limit (ask.whole names_pairs) written outcome = IsOutcomeOfRequest texts limit names_pairs written outcome
+IsOutcomeOfExtent texts read limit (ask.possible output) written outcome = IsOutcomeOfPossible texts read limit output written outcome
 
 -- the outcome is that of what is said in answer to what is asked for
 abbrev pub IsOutcomeOfAsked : Files → Asked → Outcome → Type 0
@@ -85,7 +85,7 @@ IsOutcomeOfAsked files (ask.compare version word other) outcome = IsOutcomeOfVer
 IsOutcomeOfAsked files (ask.candidate given names explains written) outcome =
     IsOutcomeOfNames (texts_for files given (ask.goals [])) names written outcome
 IsOutcomeOfAsked files (ask.solve given request limit extent explains written) outcome =
-    IsOutcomeOfExtent (texts_for files given request) limit extent written outcome
+    IsOutcomeOfExtent (texts_for files given request) (paths_given given request) limit extent written outcome
 IsOutcomeOfAsked files (ask.check_plan given request plan explains written) outcome =
     IsOutcomeOfPlanJudged (texts_for files given request) (judged_at files plan) written outcome
 IsOutcomeOfAsked files (ask.check_refutation given request refutation explains written) outcome =
@@ -93,5 +93,5 @@ IsOutcomeOfAsked files (ask.check_refutation given request refutation explains w
 IsOutcomeOfAsked files (ask.apply given request plan journal output) outcome =
     IsOutcomeOfPlanTaken (texts_for files given request) (judged_at files plan) outcome
 IsOutcomeOfAsked files (ask.installable given survey folder explains written) outcome =
-    IsOutcomeOfPackages (texts_for files given (ask.goals [])) survey folder written outcome
+    IsOutcomeOfPackages (texts_for files given (ask.goals [])) (paths_given given (ask.goals [])) survey folder written outcome
 IsOutcomeOfAsked files (ask.batch given limit) outcome = IsOutcomeOfBatch (texts_for files given (ask.goals [])) limit (files (codes "-")) outcome

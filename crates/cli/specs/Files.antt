@@ -1,5 +1,6 @@
 -- The files of a host, and what is found of them at the paths of a command line.
-use Rattle.std.specs.Prelude.{◌≡◌, ◌≢◌, ℕ, List, Option, Some, Result, Ok, Err}
+use Rattle.std.specs.Prelude.{◌≡◌, ◌≢◌, ◌&&◌, ℕ, Bool, List, Option, Some, Result, Ok, Err, codes, drop, length, nat_eq}
+use Rattle.std.specs.List.{starts_with}
 use Rattle.std.specs.Option.{option_copied, option_map}
 use Rattle.cli.specs.declared.files.Paths.{Paths}
 use Rattle.cli.specs.declared.files.TextAt.{TextAt}
@@ -50,3 +51,7 @@ pub record HasPut (path text : List ℕ) (old new : Files) : Type 0 where
 abbrev pub Puts : {A E : Type 0} → List ℕ → List ℕ → Files → Result A E → Option Files → Type 0
 Puts path text old (Ok done) new = (after : Files) × (new ≡ Some after) × HasPut path text old after
 Puts path text old (Err e) new = new ≡ Some old
+
+-- the path begins with that of the folder, and goes on with a slash
+abbrev pub is_in_folder : List ℕ → List ℕ → Bool
+is_in_folder folder path = starts_with nat_eq path folder && starts_with nat_eq (drop (length folder) path) (codes "/")

@@ -1,12 +1,14 @@
 -- What a host keeps of journals, and which texts were put by it.
-use Rattle.std.specs.Prelude.{◌≡◌, ◌≢◌, ℕ, List, [], ◌∷◌, ◌++◌, Option, None, Some, Result, Ok, Err}
+use Rattle.std.specs.Prelude.{◌≡◌, ◌≢◌, ℕ, Bool, false, List, [], ◌∷◌, ◌++◌, Option, None, Some, Result, Ok, Err}
 use Rattle.cli.specs.Files.{Files}
 
--- a text that was put at a path, and the path of the journal that was held meanwhile, if one was
+-- a text that was put at a path, the path of the journal that was held meanwhile, if one was, and whether it was put under that very name,
+-- also if a link was there
 pub record Put : Type 0 where
   pub path : List ℕ
   pub text : List ℕ
   pub held : Option (List ℕ)
+  pub named : Bool
 
 -- the file of a journal at each path, and the texts that were put, in their order
 pub record Kept (J : Type 0) : Type 0 where
@@ -41,18 +43,18 @@ GivesBack {J} path journal was now = (left : Kept J) × (now ≡ Some left) × I
 -- the text is put while the journal of the path `at` is held, which is given back then
 abbrev pub Finishes : {J A E : Type 0} → List ℕ → J → List ℕ → List ℕ → Kept J → Result A E → Option (Kept J) → Type 0
 Finishes {J} at journal path text was (Ok done) now =
-    (left : Kept J) × (now ≡ Some left) × IsBack at journal (record { path = path; text = text; held = Some at } ∷ []) was left
+    (left : Kept J) × (now ≡ Some left) × IsBack at journal (record { path = path; text = text; held = Some at; named = false } ∷ []) was left
 Finishes {J} at journal path text was (Err e) now = (left : Kept J) × (now ≡ Some left) × IsBack at journal [] was left
 
--- the text was put, and no journal was held for it
-pub record IsNoted {J : Type 0} (path text : List ℕ) (old new : Kept J) : Type 0 where
+-- the text was put so, and no journal was held for it
+pub record IsNoted {J : Type 0} (named : Bool) (path text : List ℕ) (old new : Kept J) : Type 0 where
   pub journals : (other : List ℕ) → new.journals other ≡ old.journals other
-  pub puts : new.puts ≡ old.puts ++ record { path = path; text = text; held = None } ∷ []
+  pub puts : new.puts ≡ old.puts ++ record { path = path; text = text; held = None; named = named } ∷ []
 
--- the text is put, where it can be
-abbrev pub NotesPut : {J A E : Type 0} → List ℕ → List ℕ → Kept J → Result A E → Option (Kept J) → Type 0
-NotesPut {J} path text was (Ok done) now = (left : Kept J) × (now ≡ Some left) × IsNoted path text was left
-NotesPut path text was (Err e) now = now ≡ Some was
+-- the text is put so, where it can be
+abbrev pub NotesPut : {J A E : Type 0} → Bool → List ℕ → List ℕ → Kept J → Result A E → Option (Kept J) → Type 0
+NotesPut {J} named path text was (Ok done) now = (left : Kept J) × (now ≡ Some left) × IsNoted named path text was left
+NotesPut named path text was (Err e) now = now ≡ Some was
 
 -- of files and journals nothing is changed
 abbrev pub Untouched : {J : Type 0} → Files → Kept J → Option Files → Option (Kept J) → Type 0

@@ -1,5 +1,5 @@
 -- What a call leaves of the files and the journals of a host, by what is printed.
-use Rattle.std.specs.Prelude.{◌≡◌, ◌⊎◌, ◌∷◌, ◌++◌, [], List, ℕ, Option, None, Some, Result, Ok, Err}
+use Rattle.std.specs.Prelude.{◌≡◌, ◌⊎◌, ◌∷◌, ◌++◌, [], List, ℕ, false, Option, None, Some, Result, Ok, Err}
 use Rattle.apply_engine.specs.GoodPlan.{ReadyPlan}
 use Rattle.apply_engine.specs.Prepared.{IsSaidOfPrepared}
 use Rattle.apply_engine.specs.declared.good_plan.CarriedOut.{CarriedOut}
@@ -11,7 +11,7 @@ use Rattle.cli.specs.Calls.{IsOutcomeOfAsked, IsOutcomeOfRequest}
 use Rattle.cli.specs.Files.{Files, HasPut, judged_at}
 use Rattle.cli.specs.Kept.{IsNoted, Kept, Put, SameElsewhere, Untouched}
 use Rattle.cli.specs.Packages.{IsLeftOfPackages}
-use Rattle.cli.specs.Places.{paths_for, texts_for}
+use Rattle.cli.specs.Places.{IsFree, paths_for, paths_given, texts_for}
 use Rattle.cli.specs.Possible.{IsPrintedOfKept, IsSaidOfKeptIn}
 use Rattle.cli.specs.declared.applied.Stop.{Stop}
 use Rattle.command_line.specs.Asked as ask
@@ -56,7 +56,7 @@ IsLeftOfRun (Err stop) journal output at puts printed files now = IsOutcomeOfSto
 IsLeftOfRun (Ok done) journal output at puts printed files now =
     ((printed ≡ outcome.Answer (applied_line done.steps) exit.Success)
     × ((after : Files) × (files ≡ Some after) × HasPut output done.status.items at after)
-    × (now ≡ puts ++ record { path = output; text = done.status.items; held = Some journal } ∷ []))
+    × (now ≡ puts ++ record { path = output; text = done.status.items; held = Some journal; named = false } ∷ []))
     ⊎ (IsUnwritten printed × (files ≡ Some at) × (now ≡ puts))
 
 -- a good plan is run on the journal at its path, and no other is touched
@@ -97,7 +97,7 @@ IsLeftOfPlanTaken honest facts texts plan read journal output at was = WhereApar
 -- the text stands at this path and nothing else is changed: it was put there, and no journal was held for it
 abbrev pub IsPut : {J : Type 0} → List ℕ → List ℕ → Files → Kept J → Option Files → Option (Kept J) → Type 0
 IsPut {J} path text at was files kept = ((after : Files) × (files ≡ Some after) × HasPut path text at after)
-    × ((left : Kept J) × (kept ≡ Some left) × IsNoted path text was left)
+    × ((left : Kept J) × (kept ≡ Some left) × IsNoted false path text was left)
 
 -- the answer to what is left is printed where its request stands at the path of the output; where it couldn't be written there, or
 -- where there is no output, nothing is changed
@@ -113,27 +113,33 @@ IsLeftOfSaid archives written (Ok back) output at was outcome files kept =
 IsLeftOfSaid archives written (Err refused) output at was outcome files kept = IsOutcomeOfRefusal refused outcome × Untouched at was files kept
 
 -- what is left is that of what is said of as much of the request as can be, by the texts
-abbrev pub IsLeftOfPossible : {J : Type 0} → Texts → ℕ → Option (List ℕ) → Format → Files → Kept J → Leaving J
-IsLeftOfPossible texts limit output written at was outcome files kept =
+abbrev pub IsLeftOfFree : {J : Type 0} → Texts → ℕ → Option (List ℕ) → Format → Files → Kept J → Leaving J
+IsLeftOfFree texts limit output written at was outcome files kept =
     (said : Result KeptBack Refusal) × IsSaidOfKeptIn texts limit written said
     × IsLeftOfSaid (archives_by texts) written said output at was outcome files kept
+
+-- so it is; and behind words that name one of these files that are read as the output too, nothing is changed
+abbrev pub IsLeftOfPossible : {J : Type 0} → Texts → List (List ℕ) → ℕ → Option (List ℕ) → Format → Files → Kept J → Leaving J
+IsLeftOfPossible texts read limit output written at was outcome files kept =
+    ((¬ IsFree output read) × IsOutcomeOfOneFile outcome × Untouched at was files kept)
+    ⊎ (IsFree output read × IsLeftOfFree texts limit output written at was outcome files kept)
 
 -- Of what is asked for
 
 -- all of the request changes nothing; as much of it as can be leaves its request
-abbrev pub IsLeftOfExtent : {J : Type 0} → Texts → ℕ → Extent → Format → Files → Kept J → Leaving J
-IsLeftOfExtent texts limit (ask.whole names_pairs) written at was outcome files kept =
+abbrev pub IsLeftOfExtent : {J : Type 0} → Texts → List (List ℕ) → ℕ → Extent → Format → Files → Kept J → Leaving J
+IsLeftOfExtent texts read limit (ask.whole names_pairs) written at was outcome files kept =
     IsOutcomeOfRequest texts limit names_pairs written outcome × Untouched at was files kept
-IsLeftOfExtent texts limit (ask.possible output) written at was outcome files kept =
-    IsLeftOfPossible texts limit output written at was outcome files kept
+IsLeftOfExtent texts read limit (ask.possible output) written at was outcome files kept =
+    IsLeftOfPossible texts read limit output written at was outcome files kept
 
 -- the outcome is that of what is said in answer to what is asked for: a request leaves what is left of it, a plan that is carried out
 -- its journal and its output, packages that are asked about the files of those that are broken, and all else changes nothing
 abbrev pub IsLeftOfAsked : {J : Type 0} → (J → Type 0) → (J → DiskFacts) → Asked → Files → Kept J → Leaving J
 IsLeftOfAsked honest facts (ask.solve given request limit extent explains written) at was outcome files kept =
-    IsLeftOfExtent (texts_for at given request) limit extent written at was outcome files kept
+    IsLeftOfExtent (texts_for at given request) (paths_given given request) limit extent written at was outcome files kept
 IsLeftOfAsked honest facts (ask.apply given request plan journal output) at was outcome files kept =
     IsLeftOfPlanTaken honest facts (texts_for at given request) (judged_at at plan) (paths_for given request plan) journal output at was outcome files kept
 IsLeftOfAsked honest facts (ask.installable given survey folder explains written) at was outcome files kept =
-    IsLeftOfPackages (texts_for at given (ask.goals [])) survey folder written at was outcome files kept
+    IsLeftOfPackages (texts_for at given (ask.goals [])) (paths_given given (ask.goals [])) survey folder written at was outcome files kept
 IsLeftOfAsked honest facts asked at was outcome files kept = IsOutcomeOfAsked at asked outcome × Untouched at was files kept

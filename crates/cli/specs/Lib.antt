@@ -5,6 +5,7 @@ pub mod Batch
 pub mod Calls
 pub mod Files
 pub mod Heard
+pub mod Journals
 pub mod Kept
 pub mod Leaving
 pub mod Members

@@ -1,8 +1,9 @@
 -- Where the texts are that the options of a command line name.
-use Rattle.std.specs.Prelude.{◌++◌, List, [], ◌∷◌, Some, codes, option_map, if◌then◌else◌}
+use Rattle.std.specs.Prelude.{◌≡◌, ◌≢◌, ◌++◌, ◌&&◌, ◌||◌, Bool, false, List, [], ◌∷◌, Option, None, Some, ⊤, codes, nat_eq, option_map, if◌then◌else◌}
+use Rattle.std.specs.List.{ends_with}
 use Rattle.std.specs.Option.{option_copied, option_to_list}
 use Rattle.std.specs.Str.{bytes_eq}
-use Rattle.cli.specs.Files.{Files}
+use Rattle.cli.specs.Files.{Files, is_in_folder}
 use Rattle.cli.specs.declared.files.Paths.{Paths}
 use Rattle.cli.specs.declared.files.TextAt.{TextAt}
 use Rattle.cli.specs.declared.files.TextAt.TheVariants as place
@@ -71,17 +72,51 @@ abbrev pub request_path : RequestSource → List Text
 request_path (ask.file path) = path ∷ []
 request_path (ask.goals texts) = []
 
--- the paths of the files that are read for these options, with this request and what is judged at this path
+-- the paths of the files that are read for these options, with this request
+abbrev pub paths_given : Given → RequestSource → List Text
+paths_given given asked =
+    file_path given.status ∷ file_path given.sources ∷ (option_to_list (option_map file_path given.preferences) ++ request_path asked)
+
+-- the same, and what is judged at this path
 abbrev pub paths_for : Given → RequestSource → Text → List Text
-paths_for given asked judged =
-    file_path given.status ∷ file_path given.sources ∷ judged ∷ (option_to_list (option_map file_path given.preferences) ++ request_path asked)
+paths_for given asked judged = paths_given given asked ++ judged ∷ []
 
 -- the path of a text, where it is a file
 abbrev pub place_path : TextAt → List Text
 place_path (place.File path) = path.now ∷ []
 place_path (place.Given text) = []
 
+-- the paths of the files at these places, without what is judged
+abbrev pub paths_asked : Paths → List Text
+paths_asked paths =
+    paths.status.now ∷ paths.sources.now ∷ (option_to_list (option_copied paths.preferences) ++ place_path paths.request)
+
 -- the paths of the files at these places
 abbrev pub paths_read : Paths → List Text
-paths_read paths =
-    paths.status.now ∷ paths.sources.now ∷ paths.judged.now ∷ (option_to_list (option_copied paths.preferences) ++ place_path paths.request)
+paths_read paths = paths_asked paths ++ paths.judged.now ∷ []
+
+-- none of these paths is this one
+abbrev pub AreOthers : Text → List Text → Type 0
+AreOthers path [] = ⊤
+AreOthers path (other ∷ others) = (path ≢ other) × AreOthers path others
+
+-- the path that is written, if there is one, is none of these
+abbrev pub IsFree : Option Text → List Text → Type 0
+IsFree None others = ⊤
+IsFree (Some path) others = AreOthers path others
+
+-- The folder of refutations
+
+-- a file of this name may be put into the folder
+abbrev pub may_be_put : Text → Text → Bool
+may_be_put folder path = (ends_with nat_eq path (codes ".request") || ends_with nat_eq path (codes ".refutation")) && is_in_folder folder path
+
+-- none of these may be
+abbrev pub AreOutside : Text → List Text → Type 0
+AreOutside folder [] = ⊤
+AreOutside folder (path ∷ paths) = (may_be_put folder path ≡ false) × AreOutside folder paths
+
+-- files may be put into the folder, if there is one: it has a name, and none of these files may be one of them
+abbrev pub IsFolderFree : Option Text → List Text → Type 0
+IsFolderFree None others = ⊤
+IsFolderFree (Some folder) others = (folder ≢ []) × AreOutside folder others

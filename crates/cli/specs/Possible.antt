@@ -3,13 +3,14 @@ use Rattle.std.specs.Prelude.{◌≡◌, ◌⊎◌, ℕ, List, Option, None, Som
 use Rattle.cli.specs.Again.{ArchiveOf, archives_by}
 use Rattle.cli.specs.Asking.{IsSaidIn, is_document}
 use Rattle.cli.specs.Members.{AreMembersIn, AreOfKept}
+use Rattle.cli.specs.Places.{IsFree}
 use Rattle.cli.specs.declared.possible.Left.{Left}
 use Rattle.command_line.specs.declared.call.Format.{Format}
 use Rattle.inputs.specs.Texts.{Texts}
 use Rattle.inputs.specs.declared.refusal.Refusal.{Refusal}
 use Rattle.keep_back.specs.KeptBack.{IsSaidOfKept}
 use Rattle.keep_back.specs.declared.keep_back.KeptBack.{KeptBack}
-use Rattle.outcomes.specs.Outcome.{IsOutcomeIn, IsOutcomeOfRefusal, IsOutcomeOfSolved, IsRequestUnwritten}
+use Rattle.outcomes.specs.Outcome.{IsOutcomeIn, IsOutcomeOfOneFile, IsOutcomeOfRefusal, IsOutcomeOfSolved, IsRequestUnwritten}
 use Rattle.outcomes.specs.declared.outcome.Outcome.{Outcome}
 use Rattle.serde_json.specs.Data.{Members}
 
@@ -46,6 +47,11 @@ IsOutcomeOfSaid archives written (Ok kept) output outcome =
 IsOutcomeOfSaid archives written (Err refusal) output outcome = IsOutcomeOfRefusal refusal outcome
 
 -- the outcome is that of what is said of as much of the request as can be, by the texts
-abbrev pub IsOutcomeOfPossible : Texts → ℕ → Option (List ℕ) → Format → Outcome → Type 0
-IsOutcomeOfPossible texts limit output written outcome =
+abbrev pub IsOutcomeOfFree : Texts → ℕ → Option (List ℕ) → Format → Outcome → Type 0
+IsOutcomeOfFree texts limit output written outcome =
     (said : Result KeptBack Refusal) × IsSaidOfKeptIn texts limit written said × IsOutcomeOfSaid (archives_by texts) written said output outcome
+
+-- so it is, or the words name one of these files that are read as the output too
+abbrev pub IsOutcomeOfPossible : Texts → List (List ℕ) → ℕ → Option (List ℕ) → Format → Outcome → Type 0
+IsOutcomeOfPossible texts read limit output written outcome = ((¬ IsFree output read) × IsOutcomeOfOneFile outcome)
+    ⊎ (IsFree output read × IsOutcomeOfFree texts limit output written outcome)

@@ -57,7 +57,7 @@ fn said_of_plan<H: Host>(
         host,
         paths: &arguments.paths,
         context: &mut context,
-        openings: Openings::none(),
+        openings: Openings::for_comparison(),
     };
     ask_files(alloc, &mut shelf, &settings, &Prepare {}, &mut ())
 }

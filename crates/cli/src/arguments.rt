@@ -2,7 +2,7 @@
 ghost use Rattle.std.specs.Prelude.{◌≡◌, IfOk, option_map};
 ghost use Rattle.cli.specs.Calls.{texts_at};
 ghost use Rattle.cli.specs.Files.{Files, text_at};
-ghost use Rattle.cli.specs.Places.{comparison_of, file_path, goal_lines, goals_by, lines_of, paths_for, paths_read, place_path, request_at, request_path, texts_for};
+ghost use Rattle.cli.specs.Places.{comparison_of, file_path, goal_lines, goals_by, lines_of, paths_asked, paths_for, paths_given, paths_read, place_path, request_at, request_path, texts_for};
 ghost use Rattle.command_line.specs.Asked.{RequestSource as RequestOf, asked_by, given_by, request_by, texts_by};
 
 use crate::files::{Paths, TextAt};
@@ -101,6 +101,8 @@ pub(crate) fn arguments_by<'a>(
     ensures texts { (at : Files) (asked : RequestOf) → text_at at request.entry
         ≡ request_at at asked
         → texts_at at result ≡ texts_for at (given_by options.entry.now) asked }
+    ensures asked { (asked : RequestOf) → place_path request.entry ≡ request_path asked
+        → paths_asked result.paths ≡ paths_given (given_by options.entry.now) asked }
     ensures read { (asked : RequestOf) → place_path request.entry ≡ request_path asked
         → paths_read result.paths ≡ paths_for (given_by options.entry.now) asked judged.entry.now }
     ensures judged { result.paths.judged.now ≡ judged.entry.now }

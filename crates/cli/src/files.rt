@@ -138,19 +138,30 @@ fn read_at<H: Host>(
     }
 }
 
-/// Which texts that can be read twice were read: the sources, and the indices up to the one of a number.
+/// Which texts that can be read twice were read, the sources and the indices up to the one of a number, and how one is read again.
 #[derive(Clone, Copy)]
 pub struct Openings {
     sources: bool,
     index: usize,
+    again: Turn,
 }
 
 impl Openings {
-    /// None.
+    /// None. What is read again has to be the same still.
     pub fn none() -> Openings {
         Openings {
             sources: false,
             index: 0,
+            again: Turn::Unchanged,
+        }
+    }
+
+    /// None. Who reads a text again compares what it says.
+    pub fn for_comparison() -> Openings {
+        Openings {
+            sources: false,
+            index: 0,
+            again: Turn::Again,
         }
     }
 
@@ -158,7 +169,7 @@ impl Openings {
     fn of_part(&mut self, part: WholeText) -> Turn {
         match part {
             WholeText::Sources => {
-                let turn = turn_of(self.sources);
+                let turn = self.turn_if(self.sources);
                 self.sources = true;
                 turn
             }
@@ -168,14 +179,14 @@ impl Openings {
 
     // Whether the index of this number is opened for the first time. It is noted.
     fn of_index(&mut self, number: usize) -> Turn {
-        let turn = turn_of(number <= self.index);
+        let turn = self.turn_if(number <= self.index);
         self.index = self.index.max(number);
         turn
     }
-}
 
-fn turn_of(was_read: bool) -> Turn {
-    if was_read { Turn::Again } else { Turn::First }
+    fn turn_if(&self, was_read: bool) -> Turn {
+        if was_read { self.again } else { Turn::First }
+    }
 }
 
 /// The files of a host at these paths. The index of a source is the file that it names; what is judged is the text that its file holds, as

@@ -1,6 +1,6 @@
 // What the program asks of the machine that it runs on.
-ghost use Rattle.std.specs.Prelude.{◌≡◌, ◌↔◌, ◌+◌, ◌-◌, ◌^◌, ℕ, IfErr, IfOk, IsTrue, List, None, Option, Some, min};
-ghost use Rattle.cli.specs.Files.{Files, Puts};
+ghost use Rattle.std.specs.Prelude.{◌≡◌, ◌↔◌, ◌+◌, ◌-◌, ◌^◌, ℕ, IfErr, IfOk, IsTrue, List, None, Option, Some, false, min, true};
+ghost use Rattle.cli.specs.Files.{Files, Puts, is_in_folder};
 ghost use Rattle.cli.specs.Kept.{Finishes, GivesBack, Kept, Lends, NotesPut};
 ghost use Rattle.inputs.specs.Counting.{Counts};
 
@@ -21,8 +21,17 @@ pub enum PutError {
 #[derive(Clone, Copy, Debug, PartialEq, Eq)]
 pub enum Turn {
     First,
-    /// It was read before: what can't be read a second time, as a pipe, is unreadable.
+    /// It was read before, and who reads it compares what it says: what can't be read a second time, as a pipe, is unreadable.
     Again,
+    /// It was read before, and has to be the same still: a file that was replaced or written since is unreadable, too.
+    Unchanged,
+}
+
+// Whether the path is one of the folder.
+fn is_path_in(folder: &[u8], path: &[u8]) -> bool
+    ensures { result ≡ is_in_folder folder.now path.now }
+{
+    path.starts_with(folder) && path[folder.len()..].starts_with(b"/")
 }
 
 /// Where files are read, and where the file of a journal and the output are. A path is bytes: one that the machine can't open,
@@ -96,8 +105,26 @@ pub trait Host {
         ensures put { (at : Files) → files self.old ≡ Some at
             → Puts path.now text.now at result (files self.new) }
         ensures noted { (was : Kept Self.Journal) → kept self.old ≡ Some was
-            → NotesPut path.now text.now was result (kept self.new) }
+            → NotesPut false path.now text.now was result (kept self.new) }
         ensures count { faults self.new ≡ faults self.old };
+
+    /// Puts the text at the path as `put` does, but in the place of what stands under that very name: a link there isn't followed, and what
+    /// is no plain file isn't opened.
+    fn put_named(&mut self, alloc: Global, path: &[u8], text: &[u8]) -> Result<(), PutError>
+        ensures put { (at : Files) → files self.old ≡ Some at
+            → Puts path.now text.now at result (files self.new) }
+        ensures noted { (was : Kept Self.Journal) → kept self.old ≡ Some was
+            → NotesPut true path.now text.now was result (kept self.new) }
+        ensures count { faults self.new ≡ faults self.old };
+
+    /// Tries whether files can be made in the folder. Nothing is left there.
+    fn try_folder(&mut self, _alloc: Global, _folder: &[u8]) -> Result<(), PutError>
+        ensures same { files self.new ≡ files self.old }
+        ensures keeps { kept self.new ≡ kept self.old }
+        ensures count { faults self.new ≡ faults self.old }
+    {
+        Ok(())
+    }
 
     /// Puts the text as `put` does while the journal of the path `at` is held, and then takes that back.
     fn finish(
@@ -114,9 +141,25 @@ pub trait Host {
             → Finishes at.now journal path.now text.now was result (kept self.new) }
         ensures count { faults self.new ≡ faults self.old };
 
-    /// Whether the paths lead to one file.
+    /// Whether both paths lead to one file, of which the first is written. If only the other one is `-`, that is standard input.
     fn is_same_file(&self, left: &[u8], right: &[u8]) -> bool
         ensures { (at : Files) → files self.now ≡ Some at → IsTrue result ↔ left.now ≡ right.now };
+
+    /// Which stream of the program the file at the path is, by whatever path or link: the name of standard input or output, if it is a
+    /// plain file that isn't named as that stream. Files that are known are none.
+    fn stream_at(&self, _path: &[u8]) -> Option<&'static str>
+        ensures { (at : Files) → files self.now ≡ Some at → result ≡ None }
+    {
+        None
+    }
+
+    /// Whether the name at the path, or what it leads to by links, is in the folder. Files that are known are where their paths say.
+    fn is_in_folder(&self, folder: &[u8], path: &[u8]) -> bool
+        ensures { (at : Files) → files self.now ≡ Some at
+            → result ≡ is_in_folder folder.now path.now }
+    {
+        is_path_in(folder, path)
+    }
 
     /// Shows a person on standard error how far an answer is, where one looks on. Nothing is promised of what is shown.
     fn show(&mut self, _progress: Progress)

@@ -10,6 +10,7 @@ mod asking;
 mod batch;
 mod candidate_members;
 mod files;
+mod folder;
 mod hearing;
 mod host;
 mod left_members;

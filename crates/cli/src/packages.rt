@@ -4,15 +4,17 @@ ghost use Rattle.cli.specs.Calls.{texts_at};
 ghost use Rattle.cli.specs.Files.{Files};
 ghost use Rattle.cli.specs.Kept.{Kept};
 ghost use Rattle.cli.specs.Leaving.{IsLeftWith};
-ghost use Rattle.cli.specs.Packages.{IsLeftOfSurveyIn, IsLeftOfPackages, IsOutcomeOfSurveyIn, IsOutcomeOfPackages, IsQuestionOf, IsShardOfWords};
+ghost use Rattle.cli.specs.Packages.{IsLeftOfPackages, IsLeftOfSurveyIn, IsLeftOfSurveyed, IsOutcomeOfPackages, IsOutcomeOfSurveyIn, IsOutcomeOfSurveyed, IsQuestionOf, IsShardOfWords};
+ghost use Rattle.cli.specs.Places.{paths_asked};
 ghost use Rattle.command_line.specs.Asked.{survey_by};
 ghost use Rattle.installable.specs.Answers.{IsSaidOfPackages};
 
 use crate::arguments::Arguments;
 use crate::asking::{context_if, is_document, unless_refused};
 use crate::files::{HostShelf, Openings, ask_files};
+use crate::folder::refused_place;
 use crate::host::Host;
-use crate::refutations::{files_of_survey, put_files};
+use crate::refutations::{files_of_survey, put_files, tell_all_lost};
 use crate::told::tell_refusal;
 use cli_engine::Notes;
 use command_line::{Format, ShardNumber as ShardWords, Survey};
@@ -123,13 +125,14 @@ fn tell_survey(
     Ok(())
 }
 
-// What is printed of these answers, whose files are put in the folder.
+// What is printed of these answers, whose files are put in the folder; which couldn't be written is told.
 fn outcome_of_answers<H: Host>(
     alloc: Global,
     host: &mut H,
     folder: &str,
     format: Format,
     surveyed: &Surveyed,
+    notes: &mut Notes,
 ) -> Result<Outcome, AllocError>
     ensures printed { IfOk result (IsOutcomeOfSurveyIn (Some folder.now) format (Ok surveyed.now)) }
     ensures left { (at : Files) (was : Kept H.Journal) → H.files host.old ≡ Some at
@@ -137,12 +140,11 @@ fn outcome_of_answers<H: Host>(
         (IsLeftOfSurveyIn (Some folder.now) format (Ok surveyed.now) at was) at was result
         (H.files host.new) (H.kept host.new) }
 {
-    let printed = outcome_of_surveyed(alloc, format, surveyed)?;
     let files = files_of_survey(alloc, folder, surveyed)?;
-    match put_files(alloc, host, files.as_slice())? {
-        None => Ok(printed),
-        Some(unwritten) => Ok(unwritten),
-    }
+    let lost = put_files(alloc, host, files.as_slice())?;
+    let lost = lost.as_slice();
+    tell_all_lost(lost, notes);
+    outcome_of_surveyed(alloc, format, lost.len(), surveyed)
 }
 
 // What is printed of what is said of packages, whose files are put in the folder.
@@ -152,6 +154,7 @@ fn outcome_in_folder<H: Host>(
     folder: &str,
     format: Format,
     said: &Result<Surveyed, Refusal>,
+    notes: &mut Notes,
 ) -> Result<Outcome, AllocError>
     ensures printed { IfOk result (IsOutcomeOfSurveyIn (Some folder.now) format said.now) }
     ensures left { (at : Files) (was : Kept H.Journal) → H.files host.old ≡ Some at
@@ -160,7 +163,7 @@ fn outcome_in_folder<H: Host>(
         (H.kept host.new) }
 {
     match said {
-        Ok(surveyed) => outcome_of_answers(alloc, host, folder, format, surveyed),
+        Ok(surveyed) => outcome_of_answers(alloc, host, folder, format, surveyed, notes),
         Err(refusal) => outcome_of_refusal(alloc, refusal),
     }
 }
@@ -172,6 +175,7 @@ fn outcome_of_said<H: Host>(
     folder: Option<&str>,
     format: Format,
     said: &Result<Surveyed, Refusal>,
+    notes: &mut Notes,
 ) -> Result<Outcome, AllocError>
     ensures printed { IfOk result
         (IsOutcomeOfSurveyIn (option_map (λ path. path.now) folder.entry) format said.now) }
@@ -182,12 +186,39 @@ fn outcome_of_said<H: Host>(
 {
     match folder {
         None => outcome_of_survey(alloc, format, said),
-        Some(folder) => outcome_in_folder(alloc, host, folder, format, said),
+        Some(folder) => outcome_in_folder(alloc, host, folder, format, said, notes),
     }
 }
 
+// What is printed of the packages that the words ask about, whose files may be put in the folder, if there is one.
+fn outcome_of_asked<H: Host>(
+    alloc: Global,
+    host: &mut H,
+    arguments: &Arguments<'_>,
+    survey: &Survey<'_>,
+    folder: Option<&str>,
+    notes: &mut Notes,
+) -> Result<Outcome, AllocError>
+    ensures printed { (at : Files) → H.files host.old ≡ Some at
+        → IfOk result (IsOutcomeOfSurveyed (texts_at at arguments.now)
+        (survey_by survey.now) (option_map (λ path. path.now) folder.entry) arguments.now.format) }
+    ensures left { (at : Files) (was : Kept H.Journal) → H.files host.old ≡ Some at
+        → H.kept host.old ≡ Some was → IsLeftWith
+        (IsLeftOfSurveyed (texts_at at arguments.now) (survey_by survey.now)
+        (option_map (λ path. path.now) folder.entry)
+        arguments.now.format at was)
+        at was result (H.files host.new) (H.kept host.new) }
+{
+    notes.wanted = arguments.explains;
+    let question = question_of(survey, arguments.explains || is_document(arguments.format));
+    let said = said_of_packages(alloc, host, arguments, &question, notes)?;
+    unless_refused(tell_survey(alloc, &said, notes), notes);
+    outcome_of_said(alloc, host, folder, arguments.format, &said, notes)
+}
+
 /// What is printed of the packages that the words ask about, of which each that is broken has its request and its refutation put as files
-/// in the folder, if there is one, before anything is printed. Memory alone can fail.
+/// in the folder, if there is one, before anything is printed. A folder that is refused is so before anything is read. Memory alone can
+/// fail.
 pub(crate) fn outcome_of_packages<H: Host>(
     alloc: Global,
     host: &mut H,
@@ -198,17 +229,18 @@ pub(crate) fn outcome_of_packages<H: Host>(
 ) -> Result<Outcome, AllocError>
     ensures printed { (at : Files) → H.files host.old ≡ Some at
         → IfOk result (IsOutcomeOfPackages (texts_at at arguments.now)
+        (paths_asked arguments.now.paths)
         (survey_by survey.now) (option_map (λ path. path.now) folder.entry) arguments.now.format) }
     ensures left { (at : Files) (was : Kept H.Journal) → H.files host.old ≡ Some at
         → H.kept host.old ≡ Some was → IsLeftWith
-        (IsLeftOfPackages (texts_at at arguments.now) (survey_by survey.now)
+        (IsLeftOfPackages (texts_at at arguments.now) (paths_asked arguments.now.paths)
+        (survey_by survey.now)
         (option_map (λ path. path.now) folder.entry)
         arguments.now.format at was)
         at was result (H.files host.new) (H.kept host.new) }
 {
-    notes.wanted = arguments.explains;
-    let question = question_of(survey, arguments.explains || is_document(arguments.format));
-    let said = said_of_packages(alloc, host, arguments, &question, notes)?;
-    unless_refused(tell_survey(alloc, &said, notes), notes);
-    outcome_of_said(alloc, host, folder, arguments.format, &said)
+    match refused_place(alloc, host, folder, &arguments.paths)? {
+        Some(outcome) => Ok(outcome),
+        None => outcome_of_asked(alloc, host, arguments, survey, folder, notes),
+    }
 }

@@ -5,8 +5,9 @@ ghost use Rattle.cli.specs.Again.{archives_by};
 ghost use Rattle.cli.specs.Calls.{texts_at};
 ghost use Rattle.cli.specs.Files.{Files};
 ghost use Rattle.cli.specs.Kept.{Kept};
-ghost use Rattle.cli.specs.Leaving.{IsLeftOfKept, IsLeftOfPossible, IsLeftWith};
-ghost use Rattle.cli.specs.Possible.{IsOutcomeOfPossible, IsPrintedOfKept, IsPrintedOfPut, IsPrintedWhere, IsSaidOfLeft};
+ghost use Rattle.cli.specs.Leaving.{IsLeftOfFree, IsLeftOfKept, IsLeftOfPossible, IsLeftWith};
+ghost use Rattle.cli.specs.Places.{paths_asked};
+ghost use Rattle.cli.specs.Possible.{IsOutcomeOfFree, IsOutcomeOfPossible, IsPrintedOfKept, IsPrintedOfPut, IsPrintedWhere, IsSaidOfLeft};
 ghost use Rattle.inputs.specs.Texts.{Shelved, texts_of};
 
 use crate::arguments::Arguments;
@@ -15,6 +16,7 @@ use crate::files::{HostShelf, Openings, ask_files};
 use crate::host::{Host, PutError};
 use crate::left_members::put_left;
 use crate::members::{members_of_answered, reasons_in};
+use crate::one_file::one_file_of_request;
 use crate::told::{tell_refusal, tell_undecided};
 use cli_engine::{Input, Notes, Refusal, Settings};
 use command_line::Format;
@@ -218,9 +220,8 @@ fn answer_of_possible<H: Host>(
     }
 }
 
-/// What is printed of as much of the request as can be: the answer to what is left of it, once that stands at the path of the output,
-/// if there is one. What was left out is told. Memory alone can fail.
-pub(crate) fn outcome_of_possible<H: Host>(
+// What is printed of as much of the request as can be, whose output is no file that is read.
+fn outcome_of_free<H: Host>(
     alloc: Global,
     host: &mut H,
     arguments: &Arguments<'_>,
@@ -229,12 +230,12 @@ pub(crate) fn outcome_of_possible<H: Host>(
     notes: &mut Notes,
 ) -> Result<Outcome, AllocError>
     ensures printed { (at : Files) → H.files host.old ≡ Some at
-        → IfOk result (λ outcome. IsOutcomeOfPossible
+        → IfOk result (λ outcome. IsOutcomeOfFree
         (texts_at at arguments.now) limit
         (option_map (λ path. path.now) output.entry) arguments.now.format outcome) }
     ensures left { (at : Files) (was : Kept H.Journal) → H.files host.old ≡ Some at
         → H.kept host.old ≡ Some was → IsLeftWith
-        (IsLeftOfPossible (texts_at at arguments.now) limit
+        (IsLeftOfFree (texts_at at arguments.now) limit
         (option_map (λ path. path.now) output.entry) arguments.now.format at was)
         at was result (H.files host.new) (H.kept host.new) }
 {
@@ -245,5 +246,31 @@ pub(crate) fn outcome_of_possible<H: Host>(
             show(arguments.explains, notes);
             outcome_of_refusal(alloc, &refusal)
         }
+    }
+}
+
+/// What is printed of as much of the request as can be: the answer to what is left of it, once that is at the path of the output, if there
+/// is one. What was left out is told. An output that is read, too, is refused before anything is read. Memory alone can fail.
+pub(crate) fn outcome_of_possible<H: Host>(
+    alloc: Global,
+    host: &mut H,
+    arguments: &Arguments<'_>,
+    limit: u32,
+    output: Option<&str>,
+    notes: &mut Notes,
+) -> Result<Outcome, AllocError>
+    ensures printed { (at : Files) → H.files host.old ≡ Some at
+        → IfOk result (λ outcome. IsOutcomeOfPossible
+        (texts_at at arguments.now) (paths_asked arguments.now.paths) limit
+        (option_map (λ path. path.now) output.entry) arguments.now.format outcome) }
+    ensures left { (at : Files) (was : Kept H.Journal) → H.files host.old ≡ Some at
+        → H.kept host.old ≡ Some was → IsLeftWith
+        (IsLeftOfPossible (texts_at at arguments.now) (paths_asked arguments.now.paths) limit
+        (option_map (λ path. path.now) output.entry) arguments.now.format at was)
+        at was result (H.files host.new) (H.kept host.new) }
+{
+    match one_file_of_request(alloc, host, output, &arguments.paths)? {
+        Some(outcome) => Ok(outcome),
+        None => outcome_of_free(alloc, host, arguments, limit, output, notes),
     }
 }

@@ -2,8 +2,10 @@
 ghost use Rattle.std.specs.Prelude.{◌≡◌, ◌⊎◌, IfErr, IfOk, Some, map, option_map};
 ghost use Rattle.cli.specs.Calls.{IsOutcomeOfAsked, IsOutcomeOfExtent, texts_at};
 ghost use Rattle.cli.specs.Files.{Files};
+ghost use Rattle.cli.specs.Journals.{KeepsJournals};
 ghost use Rattle.cli.specs.Kept.{Kept};
 ghost use Rattle.cli.specs.Leaving.{IsLeftOfAsked, IsLeftOfExtent, IsLeftOrUntold, IsLeftWith};
+ghost use Rattle.cli.specs.Places.{paths_asked};
 ghost use Rattle.cli.specs.Told.{IsBatchIn, IsLeftTold, IsOutcomeOfCall, IsSingle, IsToldBy, printed_later};
 ghost use Rattle.cli.specs.Words.{IsLeftOfWords, IsOutcomeOfWords};
 ghost use Rattle.command_line.specs.Asked.{asked_by, extent_by, given_by};
@@ -56,6 +58,11 @@ pub fn run<H: Host, W: Write, E: Write>(
         at was outcome (H.files host.new) (H.kept host.new)
         × IsWritten outcome (streams_on W.contents E.contents out.old err.old)
         (streams_on W.contents E.contents out.new err.new) result }
+
+    // Whatever is printed, also where memory was wanting.
+    ensures journals { (at : Files) (was : Kept H.Journal) → H.files host.old ≡ Some at
+        → H.kept host.old ≡ Some was → KeepsJournals H.Journal.honest H.Journal.facts
+        (map (λ word. word.items) words.now) was (H.kept host.new) }
 {
     let mut notes = Notes::new(alloc);
     match told_of_words(alloc, words, host, &mut notes, out, err) {
@@ -263,11 +270,11 @@ fn outcome_of_extent<H: Host>(
     notes: &mut Notes,
 ) -> Result<Outcome, AllocError>
     ensures printed { (at : Files) → H.files host.old ≡ Some at → IfOk result (λ outcome.
-        IsOutcomeOfExtent (texts_at at arguments.now) limit
+        IsOutcomeOfExtent (texts_at at arguments.now) (paths_asked arguments.now.paths) limit
         (extent_by extent.now) arguments.now.format outcome) }
     ensures left { (at : Files) (was : Kept H.Journal) → H.files host.old ≡ Some at
         → H.kept host.old ≡ Some was → IsLeftWith
-        (IsLeftOfExtent (texts_at at arguments.now) limit
+        (IsLeftOfExtent (texts_at at arguments.now) (paths_asked arguments.now.paths) limit
         (extent_by extent.now) arguments.now.format at was)
         at was result (H.files host.new) (H.kept host.new) }
 {

@@ -1,14 +1,15 @@
 //! The files of refutations, each beside its request.
-ghost use Rattle.std.specs.Prelude.{◌≡◌, ◌++◌, IfErr, IfOk, IsErr, OnOk, Some};
+ghost use Rattle.std.specs.Prelude.{◌≡◌, ◌++◌, IfErr, IfOk, OnOk, Some, map};
 ghost use Rattle.std.specs.List.{flat_map};
 ghost use Rattle.cli.specs.Files.{Files};
 ghost use Rattle.cli.specs.Kept.{Kept};
 ghost use Rattle.cli.specs.Packages as Spec;
 
 use crate::host::{Host, PutError};
+use cli_engine::Notes;
 use installable::{Installability, PackageAnswer, Surveyed};
-use outcomes::{Outcome, outcome_of_unwritten_file};
 use rules::Items;
+use sha2::{Digest, Sha256};
 use std::alloc::{AllocError, Global};
 
 /// A file that is to be written.
@@ -65,6 +66,23 @@ fn push_files(
     }
 }
 
+// How many bytes a package has at most as its files are named. With an ending, and with what is behind that while the file is written, they
+// are within the 255 that Linux lets a name have.
+const STEM_BYTES: usize = 200;
+
+// The name of files without their endings: this, or its sum if it is too long.
+fn file_stem(alloc: Global, stem: Vec<u8>) -> Result<Vec<u8>, AllocError>
+    ensures { IfOk result (λ named. named.items ≡ Spec.file_stem stem.items) }
+{
+    if stem.len() <= STEM_BYTES {
+        return Ok(stem);
+    }
+    let sum = hex::encode(alloc, Sha256::digest(stem.as_slice()))?;
+    let mut named = b"sha256-".to_vec(alloc)?;
+    named.extend_from_slice(sum.as_bytes())?;
+    Ok(named)
+}
+
 // A package, as its files are named.
 fn stem_of(alloc: Global, answer: &PackageAnswer) -> Result<Vec<u8>, AllocError>
     ensures { IfOk result (λ stem. stem.items ≡ Spec.stem_of answer.now) }
@@ -72,7 +90,7 @@ fn stem_of(alloc: Global, answer: &PackageAnswer) -> Result<Vec<u8>, AllocError>
     let mut stem = answer.name.as_bytes().to_vec(alloc)?;
     stem.extend_from_slice(b"_")?;
     stem.extend_from_slice(answer.version.as_bytes())?;
-    Ok(stem)
+    file_stem(alloc, stem)
 }
 
 // Puts the files of a package behind the others.
@@ -127,55 +145,75 @@ pub(crate) fn files_of_survey(
     Ok(files)
 }
 
-// What is printed where the file was put, which is nothing, or wasn't.
-fn outcome_of_put(
-    alloc: Global,
-    file: &Placed,
-    put: Result<(), PutError>,
-) -> Result<Option<Outcome>, AllocError>
-    ensures printed { IfOk result (Spec.IsPutOutcome put file.now.path) }
-    ensures failed { IfErr result (λ _. IsErr put) }
+// Whether the file was put. Memory alone can fail.
+fn is_put(put: Result<(), PutError>) -> Result<bool, AllocError>
+    ensures { Spec.IsPutAnswer put result }
 {
     match put {
-        Ok(()) => Ok(None),
-        Err(PutError::Unwritten) => {
-            let outcome = outcome_of_unwritten_file(alloc, file.path.as_slice())?;
-            Ok(Some(outcome))
-        }
+        Ok(()) => Ok(true),
+        Err(PutError::Unwritten) => Ok(false),
         Err(PutError::OutOfMemory) => Err(AllocError),
     }
 }
 
-// Puts the file.
-fn put_file<H: Host>(
-    alloc: Global,
-    host: &mut H,
-    file: &Placed,
-) -> Result<Option<Outcome>, AllocError>
-    ensures printed { IfOk result Spec.IsUnwritten }
-    ensures left { (at : Files) (was : Kept H.Journal) → H.files host.old ≡ Some at
+// Puts the file, under its very name. Says whether that was done.
+fn put_file<H: Host>(alloc: Global, host: &mut H, file: &Placed) -> Result<bool, AllocError>
+    ensures { (at : Files) (was : Kept H.Journal) → H.files host.old ≡ Some at
         → H.kept host.old ≡ Some was
         → Spec.IsLeftOfFile file.now at was result (H.files host.new) (H.kept host.new) }
 {
-    let put = host.put(alloc, file.path.as_slice(), file.text.as_slice());
-    outcome_of_put(alloc, file, put)
+    is_put(host.put_named(alloc, file.path.as_slice(), file.text.as_slice()))
 }
 
-/// Puts the files, one after the other, up to the first that couldn't be written, of which it gives what is printed. Memory alone can fail.
-pub(crate) fn put_files<H: Host>(
+// Puts the file behind those that are lost, unless it was put.
+fn push_lost<'f>(
+    lost: &mut Vec<&'f Placed>,
+    file: &'f Placed,
+    is_put: bool,
+) -> Result<(), AllocError>
+    ensures { OnOk result (map (λ one. one.now) lost.new.items
+        ≡ map (λ one. one.now) lost.old.items ++ Spec.lost_unless is_put file.now) }
+{
+    if !is_put {
+        lost.push(file)?;
+    }
+    Ok(())
+}
+
+/// Puts the files, one after the other, and gives those that couldn't be written. Memory alone can fail.
+pub(crate) fn put_files<'f, H: Host>(
     alloc: Global,
     host: &mut H,
-    files: &[Placed],
-) -> Result<Option<Outcome>, AllocError>
-    ensures printed { IfOk result Spec.IsUnwritten }
-    ensures left { (at : Files) (was : Kept H.Journal) → H.files host.old ≡ Some at
+    files: &'f [Placed],
+) -> Result<Vec<&'f Placed>, AllocError>
+    ensures put { (at : Files) (was : Kept H.Journal) → H.files host.old ≡ Some at
+        → H.kept host.old ≡ Some was → IfOk result
+        (λ lost. Spec.ArePut files.now (map (λ one. one.now) lost.items) at was
+        (H.files host.new) (H.kept host.new)) }
+    ensures stopped { (at : Files) (was : Kept H.Journal) → H.files host.old ≡ Some at
         → H.kept host.old ≡ Some was
-        → Spec.IsLeftOfFiles files.now at was result (H.files host.new) (H.kept host.new) }
+        → IfErr result (λ _. Spec.IsStopped files.now at was (H.files host.new) (H.kept host.new)) }
 {
+    let mut lost = Vec::new(alloc);
     for file in files {
-        if let Some(outcome) = put_file(alloc, host, file)? {
-            return Ok(Some(outcome));
+        let is_put = put_file(alloc, host, file)?;
+        push_lost(&mut lost, file, is_put)?;
+    }
+    Ok(lost)
+}
+
+// Tells that the file couldn't be written, below what is told.
+fn tell_lost(text: &mut Vec<u8>, file: &Placed) -> Result<(), AllocError> {
+    text.extend_from_slice(b"debplan: ")?;
+    text.extend_from_slice(file.path.as_slice())?;
+    text.extend_from_slice(b": E26 Write\n")
+}
+
+/// Tells which files couldn't be written, a line for each, as far as memory isn't refused for it.
+pub(crate) fn tell_all_lost(lost: &[&Placed], notes: &mut Notes) {
+    for file in lost {
+        if tell_lost(&mut notes.text, *file).is_err() {
+            return;
         }
     }
-    Ok(None)
 }

@@ -160,8 +160,7 @@ const UNKNOWN_NAME: &[u8] = b"The package that it names is in no index, and isn'
 
 const ONE_ARCHITECTURE: &[u8] =
     b"The package is of another architecture than --arch says; dpkg --print-architecture prints that of the machine.
-What can be asked about is a status file whose packages are of one architecture and all alone.
-Where --arch is right, that is a copy of the status file without the packages of other architectures, of which nothing is known then.
+If --arch is right, remove the packages of other architectures from a copy of the status file: then nothing is known of them.
 ";
 
 const OWN_SOURCES: &[u8] =

@@ -1,11 +1,12 @@
 // The files of the machine, and its standard input.
-ghost use Rattle.std.specs.Prelude.{◌≡◌, ◌≤◌, IfOk, length};
+ghost use Rattle.std.specs.Prelude.{◌≡◌, ◌≤◌, IfErr, IfOk, length};
 ghost use Rattle.inputs.specs.Counting.{Counts, one_more};
 ghost use Rattle.inputs.specs.declared.shelf.ReadError.TheVariants as ReadError;
 
+use crate::inputs::Inputs;
 use crate::journal_file::JournalFile;
-use crate::output::put_text;
-use crate::places::{is_plain, is_same_file};
+use crate::output::{put_text, put_under, try_folder};
+use crate::places::{is_in_folder, is_plain, is_same_file, stream_at};
 use crate::watch::Watch;
 use cli::{Host, Progress, PutError, ReadError, ReadFailed, Source, Turn};
 use rules::TEXT_BYTES;
@@ -70,11 +71,12 @@ fn read_some<R: Read>(reader: &mut R, block: &mut [u8]) -> Result<usize, ReadFai
     Err(ReadFailed)
 }
 
-/// The files of the machine, of which that at `-` is its standard input, how many couldn't be read, and who is shown how far an answer
-/// is.
+/// The files of the machine, of which that at `-` is its standard input, which of them were read, how many couldn't be, and who is shown how
+/// far an answer is.
 #[derive(Drop)]
 pub(crate) struct Machine<'a> {
     rt: &'a HostRuntime,
+    inputs: Inputs,
     failures: u64,
     watch: Watch,
 }
@@ -84,6 +86,7 @@ impl<'a> Machine<'a> {
     pub(crate) fn new(rt: &'a HostRuntime) -> Machine<'a> {
         Machine {
             rt,
+            inputs: Inputs::new(rt.alloc()),
             failures: 0,
             watch: Watch::new(),
         }
@@ -128,8 +131,11 @@ impl<'a> Host for Machine<'a> {
 
     fn read(&mut self, alloc: Global, path: &[u8], turn: Turn) -> Result<Vec<u8>, ReadError> {
         match (path, turn) {
-            (b"-", Turn::First) => self.read_all(alloc, standard_input(self.rt)),
-            (b"-", Turn::Again) => Err(self.unreadable()),
+            (b"-", Turn::First) => {
+                note_input(self.inputs.add_standard_input(self.rt, alloc))?;
+                self.read_all(alloc, standard_input(self.rt))
+            }
+            (b"-", _) => Err(self.unreadable()),
             _ => {
                 let file = self.open(alloc, path, turn)?;
                 self.read_all(alloc, file)
@@ -139,11 +145,11 @@ impl<'a> Host for Machine<'a> {
 
     fn open(
         &mut self,
-        _alloc: Global,
+        alloc: Global,
         path: &[u8],
         turn: Turn,
     ) -> Result<Opened<Readable>, ReadError> {
-        match readable_at(self.rt, path, turn) {
+        match readable_at(self.rt, alloc, &mut self.inputs, path, turn) {
             Ok(reader) => Ok(Opened {
                 reader,
                 failures: 0,
@@ -166,24 +172,46 @@ impl<'a> Host for Machine<'a> {
     }
 
     fn put(&mut self, _alloc: Global, path: &[u8], text: &[u8]) -> Result<(), PutError> {
+        if self.inputs.has(self.rt, path) {
+            return Err(PutError::Unwritten);
+        }
         put_text(self.rt, path, text)
+    }
+
+    fn put_named(&mut self, _alloc: Global, path: &[u8], text: &[u8]) -> Result<(), PutError> {
+        if self.inputs.has(self.rt, path) || stream_at(self.rt, path).is_some() {
+            return Err(PutError::Unwritten);
+        }
+        put_under(self.rt, path, text)
+    }
+
+    fn try_folder(&mut self, _alloc: Global, folder: &[u8]) -> Result<(), PutError> {
+        try_folder(self.rt, folder)
     }
 
     fn finish(
         &mut self,
-        _alloc: Global,
+        alloc: Global,
         _at: &[u8],
         journal: JournalFile<'a>,
         path: &[u8],
         text: &[u8],
     ) -> Result<(), PutError> {
-        let put = put_text(self.rt, path, text);
+        let put = self.put(alloc, path, text);
         drop(journal);
         put
     }
 
     fn is_same_file(&self, left: &[u8], right: &[u8]) -> bool {
         is_same_file(self.rt, left, right)
+    }
+
+    fn stream_at(&self, path: &[u8]) -> Option<&'static str> {
+        stream_at(self.rt, path)
+    }
+
+    fn is_in_folder(&self, folder: &[u8], path: &[u8]) -> bool {
+        is_in_folder(self.rt, folder, path)
     }
 
     fn show(&mut self, progress: Progress) {
@@ -205,20 +233,57 @@ fn standard_input(rt: &HostRuntime) -> Opened<Stdin> {
     }
 }
 
-// What is read at the path at this turn: at `-` the standard input, which is read once.
-fn readable_at(rt: &HostRuntime, path: &[u8], turn: Turn) -> Result<Readable, ErrorKind> {
-    match (path, turn) {
-        (b"-", Turn::First) => Ok(Readable::Input(rt.stdin())),
-        _ => Ok(Readable::File(open_at(rt, path, turn)?)),
+// For a file that can't be noted memory was wanting.
+fn note_input(noted: Result<(), AllocError>) -> Result<(), ReadError>
+    ensures { IfErr result (λ e. e ≡ ReadError.OutOfMemory) }
+{
+    match noted {
+        Ok(()) => Ok(()),
+        Err(AllocError) => Err(ReadError::OutOfMemory),
     }
 }
 
-// Opens the file at the path at this turn. Again only a plain file is read: of another, as a pipe, what was read is gone, and who opens it
-// may wait for ever.
-fn open_at(rt: &HostRuntime, path: &[u8], turn: Turn) -> Result<File, ErrorKind> {
+// What is read at the path at this turn: at `-` the standard input, which is read once. What is read for the first time is noted.
+fn readable_at(
+    rt: &HostRuntime,
+    alloc: Global,
+    inputs: &mut Inputs,
+    path: &[u8],
+    turn: Turn,
+) -> Result<Readable, ErrorKind> {
+    match (path, turn) {
+        (b"-", Turn::First) => {
+            inputs
+                .add_standard_input(rt, alloc)
+                .map_err(|_| ErrorKind::OutOfMemory)?;
+            Ok(Readable::Input(rt.stdin()))
+        }
+        (_, Turn::First) => {
+            let file = open_file(rt, path)?;
+            inputs
+                .add(alloc, path, &file)
+                .map_err(|_| ErrorKind::OutOfMemory)?;
+            Ok(Readable::File(file))
+        }
+        _ => Ok(Readable::File(open_again(rt, inputs, path, turn)?)),
+    }
+}
+
+// Opens the file at the path once more. Only a plain file is: of another, as a pipe, what was read is gone, and who opens it may wait for
+// ever. At the turn of what is unchanged it has to be so.
+fn open_again(
+    rt: &HostRuntime,
+    inputs: &Inputs,
+    path: &[u8],
+    turn: Turn,
+) -> Result<File, ErrorKind> {
+    if !is_plain(rt, path) {
+        return Err(ErrorKind::NotSeekable);
+    }
+    let file = open_file(rt, path)?;
     match turn {
-        Turn::Again if !is_plain(rt, path) => Err(ErrorKind::NotSeekable),
-        _ => open_file(rt, path),
+        Turn::Unchanged if !inputs.is_unchanged(path, &file) => Err(ErrorKind::NotSeekable),
+        _ => Ok(file),
     }
 }
 

@@ -2,7 +2,9 @@
 #![tactic(auto)]
 
 mod folder;
+mod inputs;
 mod journal_file;
+mod leftovers;
 mod machine;
 mod output;
 mod places;

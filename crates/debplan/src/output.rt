@@ -1,7 +1,8 @@
 // A text that is put in the place of a file: written beside it, brought to the disk and renamed, so that under the file's name
 // there is at each moment what there was, or all of the text.
 use crate::folder::{open_folder, sync_folder};
-use crate::places::{Place, is_same, place_of, text_of};
+use crate::leftovers::{MARK, remove_all_left, remove_left};
+use crate::places::{Place, STANDARD_ERROR, STANDARD_OUTPUT, is_same, place_of, text_of};
 use cli::PutError;
 use std::fs::{File, Metadata, OpenOptions};
 use std::io::{ErrorKind, Write};
@@ -11,11 +12,44 @@ use std::{fs, io, process};
 /// Puts the text in the place of the file at the path, or makes the file. A link stays, and the file that it leads to is replaced or
 /// made. What is no plain file, as a device or a pipe, is written as it stands, and so is what a process has open.
 pub(crate) fn put_text(rt: &HostRuntime, path: &[u8], text: &[u8]) -> Result<(), PutError> {
-    match put_at(rt, path, text) {
+    put_of(put_at(rt, path, text))
+}
+
+/// Puts the text in the place of what stands under this very name, or makes a file of this name. A link isn't followed, and what is no
+/// plain file isn't opened: both are replaced by a file. A folder isn't.
+pub(crate) fn put_under(rt: &HostRuntime, path: &[u8], text: &[u8]) -> Result<(), PutError> {
+    put_of(put_under_name(rt, path, text))
+}
+
+/// Tries whether files can be made in the folder, by making one and removing it. What runs that were stopped left there is removed.
+pub(crate) fn try_folder(rt: &HostRuntime, folder: &[u8]) -> Result<(), PutError> {
+    put_of(try_making(rt, folder))
+}
+
+fn put_of(put: io::Result<()>) -> Result<(), PutError> {
+    match put {
         Ok(()) => Ok(()),
         Err(error) if error.kind() == ErrorKind::OutOfMemory => Err(PutError::OutOfMemory),
         Err(_) => Err(PutError::Unwritten),
     }
+}
+
+fn put_under_name(rt: &HostRuntime, path: &[u8], text: &[u8]) -> io::Result<()> {
+    let place = text_of(path)?;
+    match fs::symlink_metadata(rt, place) {
+        Ok(metadata) if metadata.is_file() => put_beside(rt, place, text, Some(metadata)),
+        Ok(_) => put_beside(rt, place, text, None),
+        Err(error) if error.kind() == ErrorKind::NotFound => put_beside(rt, place, text, None),
+        Err(error) => Err(error),
+    }
+}
+
+fn try_making(rt: &HostRuntime, folder: &[u8]) -> io::Result<()> {
+    let folder = text_of(folder)?;
+    remove_all_left(rt, folder);
+    let place = format!(in rt.alloc(); "{folder}/refutations")?;
+    let Beside { path, .. } = make_beside(rt, place.as_str(), &options_for(&None))?;
+    fs::remove_file(rt, path.as_str())
 }
 
 fn put_at(rt: &HostRuntime, path: &[u8], text: &[u8]) -> io::Result<()> {
@@ -24,11 +58,6 @@ fn put_at(rt: &HostRuntime, path: &[u8], text: &[u8]) -> io::Result<()> {
         Place::Named(path) => put_named(rt, path.as_str(), text),
     }
 }
-
-// The standard streams of this process.
-const STANDARD_OUTPUT: &str = "/proc/self/fd/1";
-
-const STANDARD_ERROR: &str = "/proc/self/fd/2";
 
 // Writes the text on an open file: on what is a standard stream of this process by that, and at the end of any other.
 fn write_on_open(rt: &HostRuntime, path: &str, text: &[u8]) -> io::Result<()> {
@@ -43,6 +72,7 @@ fn write_on_open(rt: &HostRuntime, path: &str, text: &[u8]) -> io::Result<()> {
 }
 
 fn put_named(rt: &HostRuntime, place: &str, text: &[u8]) -> io::Result<()> {
+    remove_left(rt, place);
     match fs::symlink_metadata(rt, place) {
         Ok(metadata) if metadata.is_file() => put_beside(rt, place, text, Some(metadata)),
         Ok(_) => write_through(rt, place, text),
@@ -115,8 +145,8 @@ fn make_beside(rt: &HostRuntime, place: &str, options: &OpenOptions) -> io::Resu
 fn path_beside(rt: &HostRuntime, place: &str, number: u32) -> io::Result<String> {
     let process = process::id(rt.process());
     match number {
-        0 => Ok(format!(in rt.alloc(); "{place}.debplan-{process}")?),
-        _ => Ok(format!(in rt.alloc(); "{place}.debplan-{process}-{number}")?),
+        0 => Ok(format!(in rt.alloc(); "{place}{MARK}{process}")?),
+        _ => Ok(format!(in rt.alloc(); "{place}{MARK}{process}-{number}")?),
     }
 }
 

@@ -70,8 +70,8 @@ pub(crate) fn folder_of(path: &str) -> &str {
     }
 }
 
-// What the path names in its folder.
-fn name_of(path: &str) -> &str {
+/// What the path names in its folder.
+pub(crate) fn name_of(path: &str) -> &str {
     match path.rsplit_once('/') {
         None => path,
         Some((_, name)) => name,
@@ -101,16 +101,64 @@ fn is_one(left: &Metadata, right: &Metadata) -> bool {
 /// Whether the path leads to a plain file, which can be read again.
 pub(crate) fn is_plain(rt: &HostRuntime, path: &[u8]) -> bool {
     match text_of(path) {
-        Ok(path) => fs::metadata(rt, path).is_ok_and(|metadata| metadata.is_file()),
+        Ok(path) => is_plain_at(rt, path),
         Err(_) => false,
     }
 }
 
-/// Whether both paths lead to one plain file, which neither has to be there: then they lead to one name in one folder.
+fn is_plain_at(rt: &HostRuntime, path: &str) -> bool {
+    fs::metadata(rt, path).is_ok_and(|metadata| metadata.is_file())
+}
+
+// The standard streams of this process.
+pub(crate) const STANDARD_INPUT: &str = "/proc/self/fd/0";
+
+pub(crate) const STANDARD_OUTPUT: &str = "/proc/self/fd/1";
+
+pub(crate) const STANDARD_ERROR: &str = "/proc/self/fd/2";
+
+/// Which standard stream, of those that are read or answered on, the plain file at the path is, unless the path names it as an open file.
+pub(crate) fn stream_at(rt: &HostRuntime, path: &[u8]) -> Option<&'static str> {
+    let Ok(path) = text_of(path) else {
+        return None;
+    };
+    if !is_plain_at(rt, path) || matches!(place_of(rt, path), Ok(Place::Open(_))) {
+        return None;
+    }
+    if is_same(rt, path, STANDARD_OUTPUT) {
+        return Some("standard output");
+    }
+    if is_same(rt, path, STANDARD_INPUT) {
+        return Some("standard input");
+    }
+    None
+}
+
+/// Whether the name at the path, or what it leads to by links, is in the folder.
+pub(crate) fn is_in_folder(rt: &HostRuntime, folder: &[u8], path: &[u8]) -> bool {
+    let (Ok(folder), Ok(path)) = (text_of(folder), text_of(path)) else {
+        return false;
+    };
+    match place_of(rt, path) {
+        Ok(Place::Named(place)) => {
+            is_same(rt, folder_of(path), folder) || is_same(rt, folder_of(place.as_str()), folder)
+        }
+        _ => false,
+    }
+}
+
+// The path at which a file is that is read: at `-` standard input.
+fn read_at(path: &str) -> &str {
+    if path == "-" { STANDARD_INPUT } else { path }
+}
+
+/// Whether both paths lead to one plain file, which neither has to be there: then they lead to one name in one folder. If only the second
+/// one is `-`, it is standard input.
 pub(crate) fn is_same_file(rt: &HostRuntime, left: &[u8], right: &[u8]) -> bool {
     let (Ok(left), Ok(right)) = (text_of(left), text_of(right)) else {
         return false;
     };
+    let right = if left == right { right } else { read_at(right) };
     match (fs::metadata(rt, left), fs::metadata(rt, right)) {
         (Ok(left), Ok(right)) => left.is_file() && is_one(&left, &right),
         (Err(_), Err(_)) => left == right || is_same_name(rt, left, right),

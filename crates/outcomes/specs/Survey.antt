@@ -58,14 +58,24 @@ undecided_of answers = filter (λ answered. is_undecided answered.installability
 abbrev pub undecided_words : ℕ → List ℕ
 undecided_words number = if number == 0 then [] else codes ", undecided " ++ decimal number
 
--- the last line: how many packages are asked about, how many of them are broken, and where some are how many are undecided
-abbrev pub counts_line : List PackageAnswer → List ℕ
-counts_line answers = codes "checked " ++ (decimal (length answers)
-    ++ (codes ", broken " ++ (decimal (length (broken_of answers)) ++ (undecided_words (length (undecided_of answers)) ++ codes "\n"))))
+-- how many files couldn't be written, if some couldn't
+abbrev pub unwritten_words : ℕ → List ℕ
+unwritten_words number = if number == 0 then [] else codes ", unwritten " ++ decimal number
+
+-- the last line: how many packages are asked about, how many of them are broken and, if some are, undecided, and how many files couldn't be
+-- written, if some couldn't
+abbrev pub counts_line : ℕ → List PackageAnswer → List ℕ
+counts_line unwritten answers = codes "checked " ++ (decimal (length answers) ++ (codes ", broken " ++ (decimal (length (broken_of answers))
+    ++ (undecided_words (length (undecided_of answers)) ++ (unwritten_words unwritten ++ codes "\n")))))
 
 -- the line of what stands beside each package, if it can't be had by itself; those of the packages, in their order; and the counts
+abbrev pub counted_text : ℕ → Surveyed → List ℕ
+counted_text unwritten surveyed =
+    line_of (codes "base") surveyed.base ++ (flat_map package_line surveyed.packages ++ counts_line unwritten surveyed.packages)
+
+-- the same, if no file is to be written
 abbrev pub survey_text : Surveyed → List ℕ
-survey_text surveyed = line_of (codes "base") surveyed.base ++ (flat_map package_line surveyed.packages ++ counts_line surveyed.packages)
+survey_text surveyed = counted_text 0 surveyed
 
 -- What a document has of the answers
 
@@ -120,9 +130,14 @@ answer_objects tells surveyed =
     objects_by tells (codes "base") (without_package no_members) surveyed.base ++ flat_map (package_objects tells) surveyed.packages
 
 -- how many packages are asked about, broken and undecided
-abbrev pub survey_counts_data : List PackageAnswer → Data
-survey_counts_data answers = object (with_number (codes "undecided") (length (undecided_of answers))
-    (with_number (codes "checked") (length answers) (with_number (codes "broken") (length (broken_of answers)) no_members)))
+abbrev pub package_counts : List PackageAnswer → Members
+package_counts answers = with_number (codes "undecided") (length (undecided_of answers))
+    (with_number (codes "checked") (length answers) (with_number (codes "broken") (length (broken_of answers)) no_members))
+
+-- the same, and how many files couldn't be written, if some couldn't
+abbrev pub survey_counts_data : ℕ → List PackageAnswer → Data
+survey_counts_data unwritten answers =
+    object (if unwritten == 0 then package_counts answers else with_number (codes "unwritten") unwritten (package_counts answers))
 
 -- undecided where a request is, no where one has no selection, and success where each has one
 abbrev pub exit_of_survey : Surveyed → Exit
@@ -131,6 +146,10 @@ exit_of_survey surveyed =
     else if is_broken surveyed.base || list_any (λ answered. is_broken answered.installability) surveyed.packages then exit.No
     else exit.Success
 
+-- the same, if all files are written; else that one couldn't be
+abbrev pub exit_with : ℕ → Surveyed → Exit
+exit_with unwritten surveyed = if unwritten == 0 then exit_of_survey surveyed else exit.Device
+
 -- how all requests are answered, in a word
 abbrev pub answer_word : Exit → List ℕ
 answer_word exit.Success = codes "yes"
@@ -138,21 +157,21 @@ answer_word exit.Undecided = codes "undecided"
 answer_word other = codes "no"
 
 -- the members with whether all can be installed, and with how many packages are so
-abbrev pub with_counts : Surveyed → Members → Members
-with_counts surveyed others =
-    put (codes "counts") (survey_counts_data surveyed.packages) (with_text (codes "answer") (answer_word (exit_of_survey surveyed)) others)
+abbrev pub with_counts : ℕ → Surveyed → Members → Members
+with_counts unwritten surveyed others = put (codes "counts") (survey_counts_data unwritten surveyed.packages)
+    (with_text (codes "answer") (answer_word (exit_of_survey surveyed)) others)
 
 -- the object of the last line
-abbrev pub counts_object : Surveyed → Data
-counts_object surveyed = object_with (counts_line surveyed.packages) (with_counts surveyed no_members)
+abbrev pub counts_object : ℕ → Surveyed → Data
+counts_object unwritten surveyed = object_with (counts_line unwritten surveyed.packages) (with_counts unwritten surveyed no_members)
 
 -- the objects of all lines, in their order
-abbrev pub survey_objects : Bool → Surveyed → List Data
-survey_objects tells surveyed = answer_objects tells surveyed ++ counts_object surveyed ∷ []
+abbrev pub survey_objects : ℕ → Bool → Surveyed → List Data
+survey_objects unwritten tells surveyed = answer_objects tells surveyed ++ counts_object unwritten surveyed ∷ []
 
 -- the members of one document of the answers: the objects of the lines before the last one are one of them
 abbrev pub with_survey : Bool → Surveyed → Members → Members
-with_survey tells surveyed others = put (codes "packages") (array (items_of (answer_objects tells surveyed))) (with_counts surveyed others)
+with_survey tells surveyed others = put (codes "packages") (array (items_of (answer_objects tells surveyed))) (with_counts 0 surveyed others)
 
 -- those of one document of the answers, which tells their reasons, or doesn't, where memory is refused for members that do
 abbrev pub AreOfSurvey : Surveyed → Members → Type 0
@@ -166,16 +185,17 @@ AreJsonLines (value ∷ values) printed =
 
 -- the answers about packages are printed in this format: as their lines, or as a line of the object of each of them, which tell their
 -- reasons, or don't, where memory is refused for the objects that do
-abbrev pub IsSurveyIn : Format → Surveyed → List ℕ → Type 0
-IsSurveyIn format.Text surveyed printed = printed ≡ survey_text surveyed
-IsSurveyIn format.Json surveyed printed = (tells : Bool) × AreJsonLines (survey_objects tells surveyed) printed
+abbrev pub IsSurveyIn : Format → ℕ → Surveyed → List ℕ → Type 0
+IsSurveyIn format.Text unwritten surveyed printed = printed ≡ counted_text unwritten surveyed
+IsSurveyIn format.Json unwritten surveyed printed = (tells : Bool) × AreJsonLines (survey_objects unwritten tells surveyed) printed
 
--- the outcome is that of the answers about packages: they on standard output, in this format, a refusal's line on standard error
-abbrev pub IsOutcomeOfSurvey : Format → Result Surveyed Refusal → Outcome → Type 0
-IsOutcomeOfSurvey written (Ok surveyed) made =
-    (printed : List ℕ) × (made ≡ outcome.Answer printed (exit_of_survey surveyed)) × IsSurveyIn written surveyed printed
-IsOutcomeOfSurvey written (Err refusal) made = IsOutcomeOfRefusal refusal made
+-- the outcome is that of the answers about packages, of whose files so many couldn't be written: they on standard output, in this format, a
+-- refusal's line on standard error
+abbrev pub IsOutcomeOfSurvey : Format → ℕ → Result Surveyed Refusal → Outcome → Type 0
+IsOutcomeOfSurvey written unwritten (Ok surveyed) made =
+    (printed : List ℕ) × (made ≡ outcome.Answer printed (exit_with unwritten surveyed)) × IsSurveyIn written unwritten surveyed printed
+IsOutcomeOfSurvey written unwritten (Err refusal) made = IsOutcomeOfRefusal refusal made
 
--- the file at this path couldn't be written (E26)
-abbrev pub IsFileUnwritten : List ℕ → Outcome → Type 0
-IsFileUnwritten path printed = printed ≡ outcome.Complaint (codes "debplan: " ++ (path ++ codes ": E26 Write\n")) exit.Device
+-- no file can be written in the folder of refutations (E26)
+abbrev pub IsFolderUnwritten : Outcome → Type 0
+IsFolderUnwritten printed = printed ≡ outcome.Complaint (codes "debplan: refutations: E26 Write\n") exit.Device

@@ -28,6 +28,7 @@ pub use outcome::{
 };
 pub use printing::{print, print_ended, refuse_for_memory};
 pub use survey::{
-    exit_of_survey, outcome_of_survey, outcome_of_surveyed, outcome_of_unwritten_file, survey_text,
+    exit_of_survey, outcome_of_survey, outcome_of_surveyed, outcome_of_unwritten_folder,
+    survey_text,
 };
 pub use survey_documents::members_of_survey;

@@ -120,30 +120,52 @@ fn undecided_words(alloc: Global, number: usize) -> Result<String, AllocError>
     }
 }
 
-/// The last line. Memory alone can fail.
-pub(crate) fn counts_line(alloc: Global, answers: &[PackageAnswer]) -> Result<Vec<u8>, AllocError>
-    ensures { IfOk result (λ line. line.items ≡ Spec.counts_line answers.now) }
+// How many files couldn't be written, in words, if some couldn't.
+fn unwritten_words(alloc: Global, number: usize) -> Result<String, AllocError>
+    ensures { IfOk result (λ words. string_bytes words ≡ Spec.unwritten_words number) }
+{
+    match number {
+        0 => Ok(String::new(alloc)),
+        _ => format!(in alloc; ", unwritten {number}"),
+    }
+}
+
+/// The last line, with how many files couldn't be written. Memory alone can fail.
+pub(crate) fn counts_line(
+    alloc: Global,
+    unwritten: usize,
+    answers: &[PackageAnswer],
+) -> Result<Vec<u8>, AllocError>
+    ensures { IfOk result (λ line. line.items ≡ Spec.counts_line unwritten answers.now) }
 {
     let asked = answers.len();
     let broken = count_broken(answers);
     let undecided = undecided_words(alloc, count_undecided(answers))?;
-    let undecided = undecided.as_str();
-    Ok(format!(in alloc; "checked {asked}, broken {broken}{undecided}\n")?.into_bytes())
+    let unwritten = unwritten_words(alloc, unwritten)?;
+    let (undecided, unwritten) = (undecided.as_str(), unwritten.as_str());
+    Ok(format!(in alloc; "checked {asked}, broken {broken}{undecided}{unwritten}\n")?.into_bytes())
 }
 
-/// The text that is printed of the answers about packages: `broken base` or `undecided base` where what stands beside each package can't
-/// be had by itself or isn't decided; `broken NAME VERSION` or `undecided NAME VERSION` for each package of which that is so, in their
-/// order; and `checked NUMBER, broken NUMBER`, with `, undecided NUMBER` behind it where some are. Memory alone can fail.
-pub fn survey_text(alloc: Global, surveyed: &Surveyed) -> Result<Vec<u8>, AllocError>
-    ensures { IfOk result (λ text. text.items ≡ Spec.survey_text surveyed.now) }
+// The text that is printed of the answers, with how many files couldn't be written.
+fn counted_text(alloc: Global, unwritten: usize, surveyed: &Surveyed) -> Result<Vec<u8>, AllocError>
+    ensures { IfOk result (λ text. text.items ≡ Spec.counted_text unwritten surveyed.now) }
 {
     let packages = surveyed.packages.as_slice();
     let mut text = Vec::new(alloc);
     push_installability(&mut text, b"base", &surveyed.base)?;
     push_packages(alloc, &mut text, packages)?;
-    let counts = counts_line(alloc, packages)?;
+    let counts = counts_line(alloc, unwritten, packages)?;
     text.extend_from_slice(counts.as_slice())?;
     Ok(text)
+}
+
+/// The text that is printed of the answers about packages: `broken base` or `undecided base` if what stands beside each package can't be
+/// had by itself or isn't decided; `broken NAME VERSION` or `undecided NAME VERSION` for each package of which that is so, in their order;
+/// and `checked NUMBER, broken NUMBER`, with `, undecided NUMBER` after it if some are. Memory alone can fail.
+pub fn survey_text(alloc: Global, surveyed: &Surveyed) -> Result<Vec<u8>, AllocError>
+    ensures { IfOk result (λ text. text.items ≡ Spec.survey_text surveyed.now) }
+{
+    counted_text(alloc, 0, surveyed)
 }
 
 // Whether one of the packages is broken.
@@ -178,49 +200,65 @@ pub fn exit_of_survey(surveyed: &Surveyed) -> Exit
     }
 }
 
-// The answers in the format.
-fn printed_in(alloc: Global, format: Format, surveyed: &Surveyed) -> Result<Vec<u8>, AllocError>
-    ensures { IfOk result (λ text. Spec.IsSurveyIn format surveyed.now text.items) }
+// How the program ends if so many files couldn't be written.
+fn exit_with(unwritten: usize, surveyed: &Surveyed) -> Exit
+    ensures { result ≡ Spec.exit_with unwritten surveyed.now }
 {
-    match format {
-        Format::Text => survey_text(alloc, surveyed),
-        Format::Json => survey_documents(alloc, surveyed),
+    match unwritten {
+        0 => exit_of_survey(surveyed),
+        _ => Exit::Device,
     }
 }
 
-/// What is printed of the answers about packages: they on standard output, in this format, or the line of a refusal on standard error.
-/// Memory alone can fail.
+// The answers in the format, with how many files couldn't be written.
+fn printed_in(
+    alloc: Global,
+    format: Format,
+    unwritten: usize,
+    surveyed: &Surveyed,
+) -> Result<Vec<u8>, AllocError>
+    ensures { IfOk result (λ text. Spec.IsSurveyIn format unwritten surveyed.now text.items) }
+{
+    match format {
+        Format::Text => counted_text(alloc, unwritten, surveyed),
+        Format::Json => survey_documents(alloc, unwritten, surveyed),
+    }
+}
+
+/// What is printed of the answers about packages, of which no file is to be written: they on standard output, in this format, or the line
+/// of a refusal on standard error. Memory alone can fail.
 pub fn outcome_of_survey(
     alloc: Global,
     format: Format,
     answer: &Result<Surveyed, Refusal>,
 ) -> Result<Outcome, AllocError>
-    ensures { IfOk result (λ outcome. Spec.IsOutcomeOfSurvey format answer.now outcome) }
+    ensures { IfOk result (λ outcome. Spec.IsOutcomeOfSurvey format 0 answer.now outcome) }
 {
     match answer {
-        Ok(surveyed) => outcome_of_surveyed(alloc, format, surveyed),
+        Ok(surveyed) => outcome_of_surveyed(alloc, format, 0, surveyed),
         Err(refusal) => outcome_of_refusal(alloc, refusal),
     }
 }
 
-/// What is printed of what is answered about packages: it on standard output, in this format. Memory alone can fail.
+/// What is printed of what is answered about packages, of whose files so many couldn't be written: the answers on standard output, in
+/// this format, and in the last line that number, if it isn't 0. Memory alone can fail.
 pub fn outcome_of_surveyed(
     alloc: Global,
     format: Format,
+    unwritten: usize,
     surveyed: &Surveyed,
 ) -> Result<Outcome, AllocError>
-    ensures { IfOk result (λ outcome. Spec.IsOutcomeOfSurvey format (Ok surveyed.now) outcome) }
+    ensures { IfOk result
+        (λ outcome. Spec.IsOutcomeOfSurvey format unwritten (Ok surveyed.now) outcome) }
 {
-    let text = Items::new(printed_in(alloc, format, surveyed)?);
-    Ok(Outcome::Answer(text, exit_of_survey(surveyed)))
+    let text = Items::new(printed_in(alloc, format, unwritten, surveyed)?);
+    Ok(Outcome::Answer(text, exit_with(unwritten, surveyed)))
 }
 
-/// What is printed of the file at this path where it couldn't be written. Memory alone can fail.
-pub fn outcome_of_unwritten_file(alloc: Global, path: &[u8]) -> Result<Outcome, AllocError>
-    ensures { IfOk result (Spec.IsFileUnwritten path.now) }
+/// What is printed if no file can be written in the folder of refutations. Memory alone can fail.
+pub fn outcome_of_unwritten_folder(alloc: Global) -> Result<Outcome, AllocError>
+    ensures { IfOk result Spec.IsFolderUnwritten }
 {
-    let mut line = b"debplan: ".to_vec(alloc)?;
-    line.extend_from_slice(path)?;
-    line.extend_from_slice(b": E26 Write\n")?;
-    Ok(Outcome::Complaint(Items::new(line), Exit::Device))
+    let line = Items::new(b"debplan: refutations: E26 Write\n".to_vec(alloc)?);
+    Ok(Outcome::Complaint(line, Exit::Device))
 }

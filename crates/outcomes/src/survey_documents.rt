@@ -202,22 +202,36 @@ fn answer_word(exit: Exit) -> &'static str
     }
 }
 
-// The object of how many packages are asked about, broken and undecided.
-fn counts_value(alloc: Global, answers: &[PackageAnswer]) -> Result<Value, AllocError>
-    ensures { IfOk result (λ value. view value ≡ Spec.survey_counts_data answers.now) }
+// The object of how many packages are asked about, broken and undecided, and of how many files couldn't be written, if some couldn't.
+fn counts_value(
+    alloc: Global,
+    unwritten: usize,
+    answers: &[PackageAnswer],
+) -> Result<Value, AllocError>
+    ensures { IfOk result (λ value. view value ≡ Spec.survey_counts_data unwritten answers.now) }
 {
     let checked = answers.len();
     let broken = count_broken(answers);
     let undecided = count_undecided(answers);
-    json!(in alloc; {"broken": broken, "checked": checked, "undecided": undecided})
+    match unwritten {
+        0 => json!(in alloc; {"broken": broken, "checked": checked, "undecided": undecided}),
+        _ => {
+            json!(in alloc; {"broken": broken, "checked": checked, "undecided": undecided, "unwritten": unwritten})
+        }
+    }
 }
 
-// Puts whether all can be installed, and how many packages are so.
-fn put_counts(alloc: Global, members: &mut Members, surveyed: &Surveyed) -> Result<(), AllocError>
+// Puts whether all can be installed, how many packages are so, and how many files couldn't be written.
+fn put_counts(
+    alloc: Global,
+    members: &mut Members,
+    unwritten: usize,
+    surveyed: &Surveyed,
+) -> Result<(), AllocError>
     ensures { OnOk result (members_view members.new.map.entries
-        ≡ Spec.with_counts surveyed.now (members_view members.old.map.entries)) }
+        ≡ Spec.with_counts unwritten surveyed.now (members_view members.old.map.entries)) }
 {
-    let counts = counts_value(alloc, surveyed.packages.as_slice())?;
+    let counts = counts_value(alloc, unwritten, surveyed.packages.as_slice())?;
     put_text(
         alloc,
         members,
@@ -228,12 +242,12 @@ fn put_counts(alloc: Global, members: &mut Members, surveyed: &Surveyed) -> Resu
 }
 
 // The object of the last line.
-fn counts_object(alloc: Global, surveyed: &Surveyed) -> Result<Value, AllocError>
-    ensures { IfOk result (λ value. view value ≡ Spec.counts_object surveyed.now) }
+fn counts_object(alloc: Global, unwritten: usize, surveyed: &Surveyed) -> Result<Value, AllocError>
+    ensures { IfOk result (λ value. view value ≡ Spec.counts_object unwritten surveyed.now) }
 {
     let mut members = Members::new(alloc);
-    put_counts(alloc, &mut members, surveyed)?;
-    let line = counts_line(alloc, surveyed.packages.as_slice())?;
+    put_counts(alloc, &mut members, unwritten, surveyed)?;
+    let line = counts_line(alloc, unwritten, surveyed.packages.as_slice())?;
     text_object(alloc, members, line.as_slice())
 }
 
@@ -250,23 +264,34 @@ fn lines_of(alloc: Global, objects: &[Value]) -> Result<Vec<u8>, AllocError>
 }
 
 // The texts that tell the reasons, or that don't.
-fn documents_of(alloc: Global, surveyed: &Surveyed, tells: bool) -> Result<Vec<u8>, AllocError>
+fn documents_of(
+    alloc: Global,
+    unwritten: usize,
+    surveyed: &Surveyed,
+    tells: bool,
+) -> Result<Vec<u8>, AllocError>
     ensures { IfOk result
-        (λ text. AreJsonLines (Spec.survey_objects tells surveyed.now) text.items) }
+        (λ text. AreJsonLines (Spec.survey_objects unwritten tells surveyed.now) text.items) }
 {
     let mut objects = answer_objects(alloc, surveyed, tells)?;
-    push_value(&mut objects, counts_object(alloc, surveyed)?)?;
+    push_value(&mut objects, counts_object(alloc, unwritten, surveyed)?)?;
     lines_of(alloc, objects.as_slice())
 }
 
 /// A JSON text for each line that is printed of the answers about packages, in their order: a line of an object whose member `text` is
-/// that line. Where memory is refused for texts that tell the reasons, they don't. Memory alone can fail.
-pub(crate) fn survey_documents(alloc: Global, surveyed: &Surveyed) -> Result<Vec<u8>, AllocError>
-    ensures { IfOk result (λ text. Spec.IsSurveyIn format.Json surveyed.now text.items) }
+/// that line. The last one counts the files that couldn't be written, too. If memory is refused for texts that tell the reasons, they
+/// don't. Memory alone can fail.
+pub(crate) fn survey_documents(
+    alloc: Global,
+    unwritten: usize,
+    surveyed: &Surveyed,
+) -> Result<Vec<u8>, AllocError>
+    ensures { IfOk result
+        (λ text. Spec.IsSurveyIn format.Json unwritten surveyed.now text.items) }
 {
-    match documents_of(alloc, surveyed, true) {
+    match documents_of(alloc, unwritten, surveyed, true) {
         Ok(text) => Ok(text),
-        Err(AllocError) => documents_of(alloc, surveyed, false),
+        Err(AllocError) => documents_of(alloc, unwritten, surveyed, false),
     }
 }
 
@@ -276,7 +301,7 @@ fn members_by(alloc: Global, surveyed: &Surveyed, tells: bool) -> Result<Members
         members_view members.map.entries ≡ Spec.with_survey tells surveyed.now no_members) }
 {
     let mut members = Members::new(alloc);
-    put_counts(alloc, &mut members, surveyed)?;
+    put_counts(alloc, &mut members, 0, surveyed)?;
     let objects = answer_objects(alloc, surveyed, tells)?;
     members.put(alloc, "packages", Value::from(objects))?;
     Ok(members)

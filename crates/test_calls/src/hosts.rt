@@ -90,6 +90,10 @@ impl<'a> Host for OneFile<'a> {
     fn put(&mut self, _alloc: Global, _path: &[u8], _text: &[u8]) -> Result<(), PutError> {
         Err(PutError::Unwritten)
     }
+
+    fn put_named(&mut self, _alloc: Global, _path: &[u8], _text: &[u8]) -> Result<(), PutError> {
+        Err(PutError::Unwritten)
+    }
 }
 
 const SETTINGS: Settings<'static> = Settings {

@@ -187,6 +187,10 @@ impl Host for Memory<'_> {
             Err(AllocError) => Err(PutError::OutOfMemory),
         }
     }
+
+    fn put_named(&mut self, alloc: Global, path: &[u8], text: &[u8]) -> Result<(), PutError> {
+        self.put(alloc, path, text)
+    }
 }
 
 /// The words of a line, which spaces part.

@@ -181,6 +181,10 @@ impl Host for Exhausted {
     fn put(&mut self, _alloc: Global, _path: &[u8], _text: &[u8]) -> Result<(), PutError> {
         Err(PutError::OutOfMemory)
     }
+
+    fn put_named(&mut self, _alloc: Global, _path: &[u8], _text: &[u8]) -> Result<(), PutError> {
+        Err(PutError::OutOfMemory)
+    }
 }
 
 #[test]
@@ -273,6 +277,10 @@ impl Host for Worn {
     }
 
     fn put(&mut self, _alloc: Global, _path: &[u8], _text: &[u8]) -> Result<(), PutError> {
+        Err(PutError::Unwritten)
+    }
+
+    fn put_named(&mut self, _alloc: Global, _path: &[u8], _text: &[u8]) -> Result<(), PutError> {
         Err(PutError::Unwritten)
     }
 }

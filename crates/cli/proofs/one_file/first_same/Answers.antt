@@ -1,7 +1,7 @@
 -- A place that is the file, and those before it that aren't.
 use Rattle.std.proofs.Common.{◌+◌, ◌∷◌, ◌∙◌, ap, drop, drop_of_length-le, map, subst, sym}
 use Rattle.command_line.proofs.WordLemmas.{left_at}
-use Rattle.cli.specs.Applied.{AreOthers}
+use Rattle.cli.specs.Places.{AreOthers}
 use Rattle.cli.proofs.one_file.first_same.Goals as goal
 
 pub loop-place-init : goal.loop-place-init

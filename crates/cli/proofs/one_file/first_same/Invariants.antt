@@ -1,5 +1,5 @@
 use Rattle.std.proofs.Common.{◌≡◌, Some, drop, map}
-use Rattle.cli.specs.Applied.{AreOthers}
+use Rattle.cli.specs.Places.{AreOthers}
 use Rattle.cli.specs.Files.{Files}
 use Rattle.cli.proofs.one_file.first_same.Given as goal
 

@@ -1,69 +1,36 @@
--- What is printed and left of as much of a request as can be is what is said of it.
-use Rattle.std.proofs.Common.{Err, List, Ok, Result, subst, ◌∙◌, ℕ}
-use Rattle.std.specs.Option.{option_map}
-use Rattle.cli.proofs.LeavingLemmas.{all_left, left_so, none_left}
+-- What is left is that of what is said of the request, if its output is none of the files that are read.
+use Rattle.std.proofs.Common.{inr, option_map}
+use Rattle.cli.proofs.LeavingLemmas.{left_so, none_left}
 use Rattle.cli.proofs.ResultLemmas.{if_ok}
+use Rattle.cli.proofs.WordsLemmas.{holds_of_none}
 use Rattle.cli.proofs.possible.outcome_of_possible.Goals as goal
 use Rattle.cli.specs.Calls.{texts_at}
-use Rattle.cli.specs.Leaving.{IsLeftOfKept, IsLeftOfPossible}
-use Rattle.cli.specs.Possible.{IsOutcomeOfPossible, IsPrintedWhere, IsSaidOfLeft}
-use Rattle.cli.specs.declared.possible.Left.{Left}
-use Rattle.inputs.specs.declared.refusal.Refusal.{Refusal}
-use Rattle.outcomes.specs.Outcome.{IsOutcomeOfRefusal}
+use Rattle.cli.specs.Leaving.{IsLeftOfFree, IsLeftOfPossible}
+use Rattle.cli.specs.Places.{paths_asked}
+use Rattle.cli.specs.Possible.{IsOutcomeOfFree, IsOutcomeOfPossible}
 
-pub returns-in-Ok-clause-printed : goal.returns-in-Ok-clause-printed
-returns-in-Ok-clause-printed g c at known =
+pub returns-in_err-outcome-clause-left : goal.returns-in_err-outcome-clause-left
+returns-in_err-outcome-clause-left g c at was f k =
+    let arguments = c.args.arguments.now in
+    none_left at was _ _ (IsLeftOfPossible (texts_at at arguments) (paths_asked arguments.paths) c.args.limit
+    (option_map (λ path. path.now) c.args.output) arguments.format at was)
+    _ c.from_residual.ensures.0 (f, k)
+
+pub returns-in-None-clause-printed : goal.returns-in-None-clause-printed
+returns-in-None-clause-printed g c at known =
+    let arguments = c.args.arguments.now in
     let output = option_map (λ path. path.now) c.args.output in
-    let texts = texts_at at c.args.arguments.now in
-    let written = c.args.arguments.now.format in
-    let said : IsSaidOfLeft texts c.args.limit written (Ok c.in-Ok.left) =
-    subst (λ (r : Result Left Refusal). IsSaidOfLeft texts c.args.limit written r) c.in-Ok.is (c.in_ok-left.ensures.said at known) in
-    if_ok c.outcome_of_left.result (IsPrintedWhere output c.in-Ok.left.printed)
-    (IsOutcomeOfPossible texts c.args.limit output written)
-    (λ outcome is. (Ok said.0, said.1, (c.in-Ok.left.printed, said.2, is))) c.outcome_of_left.ensures.printed
+    let free = holds_of_none c.in_ok-outcome.field-0 _ _ c.in-None.is (c.in_ok-outcome.ensures.apart at known) in
+    if_ok c.outcome_of_free.result (IsOutcomeOfFree (texts_at at arguments) c.args.limit output arguments.format)
+    (IsOutcomeOfPossible (texts_at at arguments) (paths_asked arguments.paths) c.args.limit output arguments.format)
+    (λ outcome is. inr (free, is)) (c.outcome_of_free.ensures.printed at known)
 
-pub returns-in-Err-clause-printed : goal.returns-in-Err-clause-printed
-returns-in-Err-clause-printed g c at known =
+pub returns-in-None-clause-left : goal.returns-in-None-clause-left
+returns-in-None-clause-left g c at was f k =
+    let arguments = c.args.arguments.now in
     let output = option_map (λ path. path.now) c.args.output in
-    let texts = texts_at at c.args.arguments.now in
-    let written = c.args.arguments.now.format in
-    let said : IsSaidOfLeft texts c.args.limit written (Err c.in-Err.refusal) =
-    subst (λ (r : Result Left Refusal). IsSaidOfLeft texts c.args.limit written r) c.in-Err.is (c.in_ok-left.ensures.said at known) in
-    if_ok c.outcome_of_refusal.result (IsOutcomeOfRefusal c.in-Err.refusal)
-    (IsOutcomeOfPossible texts c.args.limit output written)
-    (λ outcome is. (Err c.in-Err.refusal, said, is)) c.outcome_of_refusal.ensures
-
-pub returns-in_err-left-clause-left : goal.returns-in_err-left-clause-left
-returns-in_err-left-clause-left g c at was f k =
-    let written = c.args.arguments.now.format in
-    none_left at was _ _ (IsLeftOfPossible (texts_at at c.args.arguments.now) c.args.limit (option_map (λ path. path.now) c.args.output) written at was)
-    _ c.from_residual.ensures.0 (c.in_err-left.ensures.same ∙ f, c.in_err-left.ensures.keeps ∙ k)
-
-pub returns-in-Ok-clause-left : goal.returns-in-Ok-clause-left
-returns-in-Ok-clause-left g c at was f k =
-    let output = option_map (λ path. path.now) c.args.output in
-    let texts = texts_at at c.args.arguments.now in
-    let written = c.args.arguments.now.format in
-    let left = c.in-Ok.left in
-    let files = g.H.Host.files c.outcome_of_left.new.host in
-    let kept = g.H.Host.kept c.outcome_of_left.new.host in
-    let said : IsSaidOfLeft texts c.args.limit written (Ok left) =
-    subst (λ (r : Result Left Refusal). IsSaidOfLeft texts c.args.limit written r) c.in-Ok.is (c.in_ok-left.ensures.said at f) in
-    left_so at was files kept (IsLeftOfKept output left.request left.printed at was) (IsLeftOfPossible texts c.args.limit output written at was)
-    (λ outcome is. (
-      Ok said.0,
-      said.1,
-      (left.printed, said.2, subst (λ (request : List ℕ). IsLeftOfKept output request left.printed at was outcome files kept) said.3 is),
-    ))
-    c.outcome_of_left.result (c.outcome_of_left.ensures.left at was (c.in_ok-left.ensures.same ∙ f) (c.in_ok-left.ensures.keeps ∙ k))
-
-pub returns-in-Err-clause-left : goal.returns-in-Err-clause-left
-returns-in-Err-clause-left g c at was f k =
-    let output = option_map (λ path. path.now) c.args.output in
-    let texts = texts_at at c.args.arguments.now in
-    let written = c.args.arguments.now.format in
-    let said : IsSaidOfLeft texts c.args.limit written (Err c.in-Err.refusal) =
-    subst (λ (r : Result Left Refusal). IsSaidOfLeft texts c.args.limit written r) c.in-Err.is (c.in_ok-left.ensures.said at f) in
-    all_left at was _ _ (IsOutcomeOfRefusal c.in-Err.refusal) (IsLeftOfPossible texts c.args.limit output written at was)
-    (λ outcome is same. (Err c.in-Err.refusal, said, (is, same)))
-    c.outcome_of_refusal.result c.outcome_of_refusal.ensures (c.in_ok-left.ensures.same ∙ f, c.in_ok-left.ensures.keeps ∙ k)
+    let free = holds_of_none c.in_ok-outcome.field-0 _ _ c.in-None.is (c.in_ok-outcome.ensures.apart at f) in
+    left_so at was (g.H.Host.files c.outcome_of_free.new.host) (g.H.Host.kept c.outcome_of_free.new.host)
+    (IsLeftOfFree (texts_at at arguments) c.args.limit output arguments.format at was)
+    (IsLeftOfPossible (texts_at at arguments) (paths_asked arguments.paths) c.args.limit output arguments.format at was)
+    (λ outcome is. inr (free, is)) c.outcome_of_free.result (c.outcome_of_free.ensures.left at was f k)

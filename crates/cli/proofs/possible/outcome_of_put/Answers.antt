@@ -7,7 +7,7 @@ use Rattle.cli.specs.Files.{Puts}
 use Rattle.cli.specs.Kept.{NotesPut}
 use Rattle.cli.specs.Leaving.{IsLeftOfKept}
 use Rattle.cli.specs.Possible.{IsPrintedOfPut, IsPrintedWhere}
-use Rattle.std.proofs.Common.{List, Some, subst, ℕ}
+use Rattle.std.proofs.Common.{List, Some, false, subst, ℕ}
 
 pub returns-clause-printed : goal.returns-clause-printed
 returns-clause-printed g c =
@@ -21,8 +21,8 @@ returns-clause-left g c at was f k =
     let kept = g.H.Host.kept c.put-put.new.self in
     let put = subst (λ (text : List ℕ). Puts c.args.output.now text at r files) c.as_slice.ensures
     (subst (λ (path : List ℕ). Puts path c.as_slice.result.now at r files) c.as_bytes.ensures.value (c.put-put.ensures.put at f)) in
-    let noted = subst (λ (text : List ℕ). NotesPut c.args.output.now text was r kept) c.as_slice.ensures
-    (subst (λ (path : List ℕ). NotesPut path c.as_slice.result.now was r kept) c.as_bytes.ensures.value (c.put-put.ensures.noted was k)) in
+    let noted = subst (λ (text : List ℕ). NotesPut false c.args.output.now text was r kept) c.as_slice.ensures
+    (subst (λ (path : List ℕ). NotesPut false path c.as_slice.result.now was r kept) c.as_bytes.ensures.value (c.put-put.ensures.noted was k)) in
     left_behind at was files kept (IsPrintedOfPut r c.args.left.printed)
     (IsLeftOfKept (Some c.args.output.now) c.args.left.request c.args.left.printed at was)
     (put_left c.args.output.now c.args.left.request at was c.args.left.printed r files kept put noted)

@@ -3,12 +3,12 @@ use Rattle.std.proofs.Common.{[], Bor, IfOk, List, ap, map, option_map, refl, ru
 use Rattle.cli.proofs.CallLemmas.{exchanged}
 use Rattle.cli.proofs.LeavingLemmas.{none_left, nothing_left}
 use Rattle.cli.proofs.program.outcome_of_call.Goals as goal
-use Rattle.cli.specs.Calls.{IsOutcomeOfLines, IsOutcomeOfNames, IsOutcomeOfPlanJudged, texts_at}
+use Rattle.cli.specs.Calls.{IsOutcomeOfExtent, IsOutcomeOfLines, IsOutcomeOfNames, IsOutcomeOfPlanJudged, texts_at}
 use Rattle.cli.specs.Applied.{IsOutcomeOfPlanTaken}
 use Rattle.cli.specs.Files.{judged_at}
 use Rattle.cli.specs.Leaving.{IsLeftOfAsked, IsLeftOfExtent, IsLeftOfPlanTaken, IsLeftWith}
 use Rattle.cli.specs.Packages.{IsLeftOfPackages, IsOutcomeOfPackages}
-use Rattle.cli.specs.Places.{paths_for, paths_read, texts_for}
+use Rattle.cli.specs.Places.{paths_asked, paths_for, paths_read, texts_for}
 use Rattle.command_line.specs.Asked.{asked_by, extent_by, given_by, goals, request_by, survey_by, texts_by}
 use Rattle.command_line.specs.Joined.{Text}
 
@@ -41,8 +41,26 @@ pub returns-in-Installable-clause-printed : goal.returns-in-Installable-clause-p
 returns-in-Installable-clause-printed g c at known =
     let made = c.arguments_by-arguments-in-Installable in
     let folder = option_map (λ (path : Bor Text). path.now) c.in-Installable.refutations in
-    rw c.in-Installable.is (exchanged (λ texts word written. IfOk c.outcome_of_packages.result (IsOutcomeOfPackages texts (survey_by c.in-Installable.survey) folder written))
-    _ _ [] [] _ _ (made.ensures.texts at (goals []) refl) refl made.ensures.format (c.outcome_of_packages.ensures.printed at known))
+    let r = c.outcome_of_packages.result in
+    let given = given_by c.in-Installable.options in
+    let survey = survey_by c.in-Installable.survey in
+    rw c.in-Installable.is (subst (λ (read : List Text). IfOk r (IsOutcomeOfPackages (texts_for at given (goals [])) read survey folder c.in-Installable.format))
+    (made.ensures.asked (goals []) refl)
+    (exchanged (λ texts word written. IfOk r (IsOutcomeOfPackages texts (paths_asked made.result.paths) survey folder written))
+    _ _ [] [] _ _ (made.ensures.texts at (goals []) refl) refl made.ensures.format (c.outcome_of_packages.ensures.printed at known)))
+
+pub returns-in-Solve-clause-printed : goal.returns-in-Solve-clause-printed
+returns-in-Solve-clause-printed g c at known =
+    let made = c.arguments_by-arguments-in-Solve in
+    let r = c.outcome_of_extent.result in
+    let request = request_by c.in-Solve.request in
+    let given = given_by c.in-Solve.options in
+    let extent = extent_by c.in-Solve.extent in
+    rw c.in-Solve.is (subst (λ (read : List Text). IfOk r (IsOutcomeOfExtent (texts_for at given request) read c.in-Solve.limit extent c.in-Solve.format))
+    (made.ensures.asked request c.place_of-place.ensures.path)
+    (exchanged (λ texts word written. IfOk r (IsOutcomeOfExtent texts (paths_asked made.result.paths) c.in-Solve.limit extent written))
+    _ _ [] [] _ _ (made.ensures.texts at request (c.place_of-place.ensures.text at)) refl made.ensures.format
+    (c.outcome_of_extent.ensures.printed at known)))
 
 pub returns-in-Apply-clause-printed : goal.returns-in-Apply-clause-printed
 returns-in-Apply-clause-printed g c at known =
@@ -71,9 +89,14 @@ returns-in-Solve-clause-left g c at was f k =
     let r = c.outcome_of_extent.result in
     let files = g.H.Host.files c.outcome_of_extent.new.host in
     let kept = g.H.Host.kept c.outcome_of_extent.new.host in
-    rw c.in-Solve.is (exchanged (λ texts word written. IsLeftWith (IsLeftOfExtent texts c.in-Solve.limit (extent_by c.in-Solve.extent) written at was) at was r files kept)
-    _ _ [] [] _ _ (made.ensures.texts at (request_by c.in-Solve.request) (c.place_of-place.ensures.text at)) refl made.ensures.format
-    (c.outcome_of_extent.ensures.left at was f k))
+    let request = request_by c.in-Solve.request in
+    let given = given_by c.in-Solve.options in
+    let extent = extent_by c.in-Solve.extent in
+    rw c.in-Solve.is (subst (λ (read : List Text). IsLeftWith (IsLeftOfExtent (texts_for at given request) read c.in-Solve.limit extent c.in-Solve.format at was) at was r files kept)
+    (made.ensures.asked request c.place_of-place.ensures.path)
+    (exchanged (λ texts word written. IsLeftWith (IsLeftOfExtent texts (paths_asked made.result.paths) c.in-Solve.limit extent written at was) at was r files kept)
+    _ _ [] [] _ _ (made.ensures.texts at request (c.place_of-place.ensures.text at)) refl made.ensures.format
+    (c.outcome_of_extent.ensures.left at was f k)))
 
 pub returns-in-CheckPlan-clause-left : goal.returns-in-CheckPlan-clause-left
 returns-in-CheckPlan-clause-left g c at was f k =
@@ -92,8 +115,12 @@ returns-in-Installable-clause-left g c at was f k =
     let r = c.outcome_of_packages.result in
     let files = g.H.Host.files c.outcome_of_packages.new.host in
     let kept = g.H.Host.kept c.outcome_of_packages.new.host in
-    rw c.in-Installable.is (exchanged (λ texts word written. IsLeftWith (IsLeftOfPackages texts (survey_by c.in-Installable.survey) folder written at was) at was r files kept)
-    _ _ [] [] _ _ (made.ensures.texts at (goals []) refl) refl made.ensures.format (c.outcome_of_packages.ensures.left at was f k))
+    let given = given_by c.in-Installable.options in
+    let survey = survey_by c.in-Installable.survey in
+    rw c.in-Installable.is (subst (λ (read : List Text). IsLeftWith (IsLeftOfPackages (texts_for at given (goals [])) read survey folder c.in-Installable.format at was) at was r files kept)
+    (made.ensures.asked (goals []) refl)
+    (exchanged (λ texts word written. IsLeftWith (IsLeftOfPackages texts (paths_asked made.result.paths) survey folder written at was) at was r files kept)
+    _ _ [] [] _ _ (made.ensures.texts at (goals []) refl) refl made.ensures.format (c.outcome_of_packages.ensures.left at was f k)))
 
 pub returns-in-Apply-clause-left : goal.returns-in-Apply-clause-left
 returns-in-Apply-clause-left g c at was f k =

@@ -4,6 +4,7 @@ use Rattle.cli.proofs.LeavingLemmas.{all_left}
 use Rattle.cli.proofs.program.outcome_of_extent.Goals as goal
 use Rattle.cli.specs.Calls.{IsOutcomeOfRequest, texts_at}
 use Rattle.cli.specs.Leaving.{IsLeftOfExtent}
+use Rattle.cli.specs.Places.{paths_asked}
 use Rattle.command_line.specs.Asked.{whole}
 
 pub returns-in-Whole-clause-printed : goal.returns-in-Whole-clause-printed
@@ -14,7 +15,7 @@ returns-in-Whole-clause-left g c at was f k =
     let texts = texts_at at c.args.arguments.now in
     let written = c.args.arguments.now.format in
     rw c.in-Whole.is (all_left at was _ _ (IsOutcomeOfRequest texts c.args.limit c.in-Whole.names_pairs written)
-    (IsLeftOfExtent texts c.args.limit (whole c.in-Whole.names_pairs) written at was)
+    (IsLeftOfExtent texts (paths_asked c.args.arguments.now.paths) c.args.limit (whole c.in-Whole.names_pairs) written at was)
     (λ outcome is same. (is, same)) c.outcome_of_request.result (c.outcome_of_request.ensures.printed at f)
     (c.outcome_of_request.ensures.same ∙ f, c.outcome_of_request.ensures.keeps ∙ k))
 

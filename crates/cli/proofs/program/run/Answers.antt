@@ -1,5 +1,6 @@
 -- What is printed is written, and what is left is left by it; or memory was wanting, and then nothing stands on standard output.
 use Rattle.std.proofs.Common.{Global, IsErr, Vec, codes, inl, inr, map, refl, rules, subst, ℕ}
+use Rattle.cli.proofs.JournalLemmas.{journals_kept}
 use Rattle.cli.proofs.ToldLemmas.{err_says, memory_written, outcome_left, outcome_told, status_left, status_told, untold_left}
 use Rattle.cli.specs.Words.{IsLeftOfWords, IsOutcomeOfWords}
 use Rattle.conversation.specs.Stream.{written_on}
@@ -76,3 +77,21 @@ returns-clause-left g c at was f k =
           (written_on g.E.Write.contents c.refuse_for_memory.new.err) c.refuse_for_memory.result c.refuse_for_memory.ensures.status
           (err_says c.told_of_words.result _ failed c.told_of_words.ensures.unwritten) c.refuse_for_memory.ensures.said,
     )
+
+pub returns-in-Ok-Outcome-clause-journals : goal.returns-in-Ok-Outcome-clause-journals
+returns-in-Ok-Outcome-clause-journals g c at was f k =
+    let left = returns-in-Ok-Outcome-clause-left g c at was f k in
+    journals_kept g.H.Journal.Disk.honest g.H.Journal.Disk.facts (map (λ (word : Vec ℕ Global). word.items) c.args.words.now) at was left.0
+    (g.H.Host.files c.told_of_words.new.host) (g.H.Host.kept c.told_of_words.new.host) left.1
+
+pub returns-in-Ok-Status-clause-journals : goal.returns-in-Ok-Status-clause-journals
+returns-in-Ok-Status-clause-journals g c at was f k =
+    let left = returns-in-Ok-Status-clause-left g c at was f k in
+    journals_kept g.H.Journal.Disk.honest g.H.Journal.Disk.facts (map (λ (word : Vec ℕ Global). word.items) c.args.words.now) at was left.0
+    (g.H.Host.files c.told_of_words.new.host) (g.H.Host.kept c.told_of_words.new.host) left.1
+
+pub returns-clause-journals : goal.returns-clause-journals
+returns-clause-journals g c at was f k =
+    let left = returns-clause-left g c at was f k in
+    journals_kept g.H.Journal.Disk.honest g.H.Journal.Disk.facts (map (λ (word : Vec ℕ Global). word.items) c.args.words.now) at was left.0
+    (g.H.Host.files c.told_of_words.new.host) (g.H.Host.kept c.told_of_words.new.host) left.1
