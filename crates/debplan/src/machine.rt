@@ -3,10 +3,10 @@ ghost use Rattle.std.specs.Prelude.{◌≡◌, ◌≤◌, IfErr, IfOk, length};
 ghost use Rattle.inputs.specs.Counting.{Counts, one_more};
 ghost use Rattle.inputs.specs.declared.shelf.ReadError.TheVariants as ReadError;
 
-use crate::inputs::Inputs;
 use crate::journal_file::JournalFile;
 use crate::output::{put_text, put_under, try_folder};
 use crate::places::{is_in_folder, is_plain, is_same_file, stream_at};
+use crate::read_files::Inputs;
 use crate::watch::Watch;
 use cli::{Host, Progress, PutError, ReadError, ReadFailed, Source, Turn};
 use rules::TEXT_BYTES;

@@ -2,12 +2,12 @@
 #![tactic(auto)]
 
 mod folder;
-mod inputs;
 mod journal_file;
 mod leftovers;
 mod machine;
 mod output;
 mod places;
+mod read_files;
 mod watch;
 mod words;
 
