@@ -47,7 +47,7 @@ REFUSALS = {
         rb"request: E(?:16 BadRequest|17 UnknownName) %s" % LINE, rb"plan: E18 BadPlan %s" % LINE,
         rb"refutation: E19 BadRefutation %s" % LINE, rb"%s: E28 Changed" % INDEX,
         rb"journal: E(?:21 NotAJournal|22 Damaged [0-9]+|25 JournalMismatch|29 OtherArchitecture)"],
-    5: [rb"memory: E1 OutOfMemory", rb"%s: E5 Read" % TEXT, rb"journal: E20 Disk", rb"(?:output|request-out): E26 Write"],
+    5: [rb"memory: E1 OutOfMemory", rb"%s: E5 Read" % TEXT, rb"journal: E20 Disk", rb"(?:output|refutations|request-out): E26 Write"],
 }
 FORMS = {status: re.compile(rb"debplan: (?:%s)\n" % b"|".join(forms)) for status, forms in REFUSALS.items()}
 OF_A_LINE = re.compile(rb"debplan: (status|sources|preferences|request|plan|refutation): E[0-9]+ [A-Za-z]+ ([0-9]+)(?: |\n)")
